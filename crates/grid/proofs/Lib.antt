@@ -1,0 +1,4 @@
+pub mod Numbering
+pub mod Striding
+pub mod Joining
+pub mod Between
