@@ -1,5 +1,7 @@
-// Prices a wire under each tariff, step by step.
+// Prices a wire under each tariff, step by step, and lays it on a sheet.
 // The arguments are the columns, rows and layers of a shape, and then the places of the wire.
+mod sheet_step;
+
 use grid::Shape;
 use grid::Step;
 use octile::Octile;
@@ -10,6 +12,7 @@ use pricing::price;
 use pricing::price_step;
 use rectilinear::Rectilinear;
 use rectilinear::RectilinearTariff;
+use sheet_step::print_sheet;
 use std::env;
 use std::error::AnyError;
 use std::fmt::Display;
@@ -102,6 +105,7 @@ fn run(rt: &LibcRuntime) -> Result<(), AnyError> {
             print_price::<Octile>(rt, "octile", shape, wire)?;
             print_price::<Rectilinear>(rt, "rectilinear", shape, wire)?;
             print_price::<ViaFirst>(rt, "via-first", shape, wire)?;
+            print_sheet(rt, shape, wire)?;
         }
     }
     Ok(())

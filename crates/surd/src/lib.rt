@@ -27,13 +27,20 @@ fn excess_over(x: Surd, y: Surd) -> u128
     a * a + 2 * (b * b)
 }
 
+// Whether x is less than y: one of them exceeds the other by more.
+fn is_less(x: Surd, y: Surd) -> bool
+    ensures { λ r. ⌜ r ≡ is-below x y ⌝ }
+{
+    excess_over(x, y) < excess_over(y, x)
+}
+
 impl Surd {
     // Whether the number is less than the other.
     pub fn below(self, other: Surd) -> bool
         ensures is { λ r. ⌜ r ≡ is-below self other ⌝ }
         ensures real { λ r. ⌜ ((r ≡ true) ↔ Separated self other) ⌝ }
     {
-        excess_over(self, other) < excess_over(other, self)
+        is_less(self, other)
     }
 
     // The greatest whole number that is not past this one.

@@ -1,0 +1,1 @@
+// Grounds and sheets as contracts speak of them. This crate has definitions and lemmas only.
