@@ -1,7 +1,9 @@
 // Prices a wire under each tariff, step by step, and lays it on a sheet.
 // The arguments are the columns, rows and layers of a shape, and then the places of the wire.
+mod front_step;
 mod sheet_step;
 
+use front_step::print_fronts;
 use grid::Shape;
 use grid::Step;
 use octile::Octile;
@@ -106,6 +108,7 @@ fn run(rt: &LibcRuntime) -> Result<(), AnyError> {
             print_price::<Rectilinear>(rt, "rectilinear", shape, wire)?;
             print_price::<ViaFirst>(rt, "via-first", shape, wire)?;
             print_sheet(rt, shape, wire)?;
+            print_fronts(rt)?;
         }
     }
     Ok(())

@@ -1,0 +1,3 @@
+pub mod Offering
+pub mod Taking
+pub mod Emptying

@@ -1,0 +1,14 @@
+pub mod Order
+pub mod Holes
+pub mod Best
+pub mod Queue
+pub mod Offer
+pub mod Rule
+pub mod One
+pub mod Wire
+pub mod Laws
+pub mod Stopped
+pub mod Sweep
+pub mod Around
+pub mod Bridge
+pub mod Labels
