@@ -1,4 +1,6 @@
 // A layer that keeps clear: what is open above has only open places around it below.
+#![tactic(auto)]
+
 ghost use Rattle.std.specs.Prelude.{◌≡◌, ◌<◌, ◌≤◌, true, ◌↔◌};
 ghost use Rattle.grid.specs.Steps.{moved, beyond};
 ghost use Rattle.model.specs.Clear.{is_clear, clear_ground, ClearAround};

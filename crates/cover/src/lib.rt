@@ -1,4 +1,6 @@
 // Laying a whole path for one net, on any sheet.
+#![tactic(auto)]
+
 ghost use Rattle.std.specs.Prelude.{◌≡◌, Ok};
 ghost use Rattle.model.specs.Paths.{cover_answer, Coverable, CoverIsExact, Covered, Covers};
 ghost use Rattle.model.specs.Sheets.{sheet as whole, answered, bare_at};

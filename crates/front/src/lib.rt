@@ -1,4 +1,6 @@
 // Fronts: the places that wait in a wave, each at a cost.
+#![tactic(auto)]
+
 ghost use Rattle.std.specs.Prelude.{◌≡◌, true, ◌&&◌, nat_le};
 ghost use Rattle.front.specs.Queue.{Queue, Starts, Puts, Takes};
 ghost use Rattle.front.specs.Counts.{CountsFollow};

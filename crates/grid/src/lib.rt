@@ -1,4 +1,6 @@
 // Boards as grids of places: shapes, the numbers of places, the steps that join them and the directions in which steps go.
+#![tactic(auto)]
+
 pub mod fault;
 pub mod neighbour;
 pub mod place;

@@ -1,4 +1,6 @@
 // Shapes, places and steps at their limits.
+#![tactic(auto)]
+
 #[cfg(test)]
 mod tests {
     use grid::{Coordinates, Direction, Shape, Step, directions};

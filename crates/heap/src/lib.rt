@@ -1,4 +1,6 @@
 // A front that is an indexed binary heap.
+#![tactic(auto)]
+
 ghost use Rattle.std.specs.Prelude.{◌≡◌, ◌-◌, length};
 ghost use Rattle.tariff.specs.Rates.{Rates};
 ghost use Rattle.heap.specs.Queues.{heap_queue, empty_queue, HeapOrder};

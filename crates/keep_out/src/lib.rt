@@ -1,4 +1,6 @@
 // A layer that keeps out of rectangles.
+#![tactic(auto)]
+
 pub mod layer;
 pub mod rectangle;
 pub mod row;

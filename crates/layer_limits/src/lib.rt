@@ -1,4 +1,6 @@
 // Clearance and keep-out at their limits.
+#![tactic(auto)]
+
 #[cfg(test)]
 mod tests {
     use clearance::Clearance;

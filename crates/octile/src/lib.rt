@@ -1,4 +1,6 @@
 // The octile tariff: straight steps, diagonals and vias, in numbers a + b√2.
+#![tactic(auto)]
+
 ghost use Rattle.std.specs.Prelude.{◌≡◌};
 ghost use Rattle.octile.specs.Octile.{WorkedCosts, octile_rates, octile_within};
 ghost use Rattle.octile.specs.OctileLaws.{octile_laws};

@@ -1,4 +1,6 @@
 // Layers piled on any sheet: one layer to a function, each handed on to code for all sheets.
+#![tactic(auto)]
+
 ghost use Rattle.std.specs.Prelude.{◌≡◌, [], ◌∷◌};
 ghost use Rattle.grid.specs.Faults.{refusal};
 ghost use Rattle.model.specs.Sheets.{sheet as sheet-of, answered, ask};

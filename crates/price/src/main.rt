@@ -1,5 +1,7 @@
 // Prices a wire under each tariff, step by step, and lays it on a sheet.
 // The arguments are the columns, rows and layers of a shape, and then the places of the wire.
+#![tactic(auto)]
+
 mod front_step;
 mod sheet_step;
 

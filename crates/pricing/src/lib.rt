@@ -1,4 +1,6 @@
 // What a wire costs, step by step.
+#![tactic(auto)]
+
 ghost use Rattle.std.specs.Prelude.{◌≡◌, ◌↔◌, Ok};
 ghost use Rattle.pricing.specs.Prices.{step_price, wire_price, Costs};
 

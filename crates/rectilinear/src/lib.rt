@@ -1,4 +1,6 @@
 // The rectilinear tariff: straight steps and vias, no diagonals.
+#![tactic(auto)]
+
 ghost use Rattle.std.specs.Prelude.{◌≡◌};
 ghost use Rattle.rectilinear.specs.Rectilinear.{rectilinear_rates, within};
 ghost use Rattle.rectilinear.specs.RectilinearLaws.{rectilinear_laws};

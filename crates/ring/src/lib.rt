@@ -1,4 +1,6 @@
 // A front of rows in a ring, for every tariff whose span is 1 to 31.
+#![tactic(auto)]
+
 ghost use Rattle.std.specs.Prelude.{◌≡◌, ℕ, ◌-◌, length, None};
 ghost use Rattle.tariff.specs.Rates.{Rates};
 ghost use Rattle.ring.specs.Rings.{view_of, InOrder};

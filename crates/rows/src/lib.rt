@@ -1,4 +1,5 @@
 // What a ring keeps in its lent list.
+#![tactic(auto)]
 
 // Of a place: its cost, its neighbours in its row, and the position it names; of a position: the place it names.
 #[derive(Clone, Copy)]

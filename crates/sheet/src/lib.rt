@@ -1,4 +1,6 @@
 // What can be asked of a board, and laid on it.
+#![tactic(auto)]
+
 ghost use Rattle.std.specs.Prelude.{◌≡◌, leb};
 ghost use Rattle.model.specs.Sheets.{Ground as GroundMeaning, Sound, Metal, Held, sheet, spare, Tied, answered, copper_answer, lay_answer, lift_answer, bar_answer, Laid, Lifted, Barred, Wiped};
 

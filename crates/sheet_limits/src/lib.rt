@@ -1,4 +1,6 @@
 // Grounds, sheets and paths at their limits.
+#![tactic(auto)]
+
 ghost use Rattle.sheet_limits.specs.Lists.{Wires};
 
 #[cfg(test)]

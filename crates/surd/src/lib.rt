@@ -1,4 +1,6 @@
 // The numbers a + b√2: their order, and their whole parts.
+#![tactic(auto)]
+
 ghost use Rattle.std.specs.Prelude.{◌≡◌, true, ◌↔◌, Some};
 ghost use Rattle.surd.specs.Surds.{Separated, excess, is_below, whole_of, written};
 

@@ -1,4 +1,6 @@
 // What a path costs: the interface of all tariffs, with its laws.
+#![tactic(auto)]
+
 ghost use Rattle.std.specs.Prelude.{◌≡◌};
 ghost use Rattle.tariff.specs.Rates.{Rates, Laws};
 

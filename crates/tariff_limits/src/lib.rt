@@ -1,4 +1,5 @@
 // The three tariffs at the limits of their costs and past them.
+#![tactic(auto)]
 
 #[cfg(test)]
 mod tests {

@@ -1,4 +1,6 @@
 // The via-first tariff: the path with the fewest vias, and among those the shortest.
+#![tactic(auto)]
+
 ghost use Rattle.std.specs.Prelude.{◌≡◌, true, ◌↔◌, Some};
 ghost use Rattle.via_first.specs.ViaFirst.{FewerViasOrShorter, via_first_cost, via_first_rates, via_first_text, via_first_within};
 ghost use Rattle.via_first.specs.ViaFirstLaws.{via_first_laws};

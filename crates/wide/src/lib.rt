@@ -1,4 +1,6 @@
 // Grounds and sheets over lent lists that have one entry a place.
+#![tactic(auto)]
+
 pub mod drawing;
 pub mod entries;
 pub mod wide_sheet;

@@ -1,4 +1,6 @@
 // Boards worked through: what the definitions give.
+#![tactic(auto)]
+
 ghost use Rattle.std.specs.Prelude.{◌≡◌};
 ghost use Rattle.worked.specs.Boards.{WorkedBoards};
 

@@ -21,25 +21,25 @@ pub back-requires-in-NorthWest : goal.back-requires-in-NorthWest
 back-requires-in-NorthWest c = let r = reach c.args.self in λ h. omega arith
 
 pub back-requires-in-NorthWest-2 : goal.back-requires-in-NorthWest-2
-back-requires-in-NorthWest-2 c = let r = reach c.args.self in let b = back_some _ _ _ _ (sym c.in-ok-back.ensures) in λ h. omega (arith, r.row h)
+back-requires-in-NorthWest-2 c = let r = reach c.args.self in let b = back_some _ _ _ _ (sym c.in_ok-back-in-NorthWest.ensures) in λ h. omega (arith, r.row h)
 
 pub forth-requires-in-NorthEast : goal.forth-requires-in-NorthEast
 forth-requires-in-NorthEast c = let r = reach c.args.self in (c.args.self.inside.0, omega arith)
 
 pub back-requires-in-NorthEast : goal.back-requires-in-NorthEast
-back-requires-in-NorthEast c = let r = reach c.args.self in let b = forth_some _ _ _ _ _ (sym c.in-ok-forth.ensures) in λ h. omega (arith, r.row h)
+back-requires-in-NorthEast c = let r = reach c.args.self in let b = forth_some _ _ _ _ _ (sym c.in_ok-forth-in-NorthEast.ensures) in λ h. omega (arith, r.row h)
 
 pub back-requires-in-SouthWest : goal.back-requires-in-SouthWest
 back-requires-in-SouthWest c = let r = reach c.args.self in λ h. omega arith
 
 pub forth-requires-in-SouthWest : goal.forth-requires-in-SouthWest
-forth-requires-in-SouthWest c = let r = reach c.args.self in let b = back_some _ _ _ _ (sym c.in-ok-back-2.ensures) in (c.args.self.inside.1, omega arith)
+forth-requires-in-SouthWest c = let r = reach c.args.self in let b = back_some _ _ _ _ (sym c.in_ok-back-in-SouthWest.ensures) in (c.args.self.inside.1, omega arith)
 
 pub forth-requires-in-SouthEast : goal.forth-requires-in-SouthEast
 forth-requires-in-SouthEast c = let r = reach c.args.self in (c.args.self.inside.0, omega arith)
 
 pub forth-requires-in-SouthEast-2 : goal.forth-requires-in-SouthEast-2
-forth-requires-in-SouthEast-2 c = let r = reach c.args.self in let b = forth_some _ _ _ _ _ (sym c.in-ok-forth-2.ensures) in (c.args.self.inside.1, omega arith)
+forth-requires-in-SouthEast-2 c = let r = reach c.args.self in let b = forth_some _ _ _ _ _ (sym c.in_ok-forth-in-SouthEast.ensures) in (c.args.self.inside.1, omega arith)
 
 pub back-requires-in-Up : goal.back-requires-in-Up
 back-requires-in-Up c = let r = reach c.args.self in r.layer
@@ -65,42 +65,42 @@ returns-in-Up c = c.back-in-Up.ensures ∙ neighbour_strides c.args.self c.args.
 pub returns-in-Down : goal.returns-in-Down
 returns-in-Down c = c.forth-in-Down.ensures ∙ neighbour_strides c.args.self c.args.direction Down c.in-Down.is
 
-pub returns-in-err-back : goal.returns-in-err-back
-returns-in-err-back c =
-    c.from-residual.ensures ∙ ap (slide Back c.args.self.at.row c.args.self.shape.rows c.args.self.shape.columns) c.in-err-back.ensures ∙
+pub returns-in_err-back-in-NorthWest : goal.returns-in_err-back-in-NorthWest
+returns-in_err-back-in-NorthWest c =
+    c.from_residual.ensures ∙ ap (slide Back c.args.self.at.row c.args.self.shape.rows c.args.self.shape.columns) c.in_err-back-in-NorthWest.ensures ∙
     neighbour_strides c.args.self c.args.direction NorthWest c.in-NorthWest.is
 
-pub returns-in-ok-back : goal.returns-in-ok-back
-returns-in-ok-back c =
-    c.back-in-NorthWest-2.ensures ∙ ap (slide Back c.args.self.at.row c.args.self.shape.rows c.args.self.shape.columns) c.in-ok-back.ensures ∙
+pub returns-in_ok-back-in-NorthWest : goal.returns-in_ok-back-in-NorthWest
+returns-in_ok-back-in-NorthWest c =
+    c.back-in-NorthWest-2.ensures ∙ ap (slide Back c.args.self.at.row c.args.self.shape.rows c.args.self.shape.columns) c.in_ok-back-in-NorthWest.ensures ∙
     neighbour_strides c.args.self c.args.direction NorthWest c.in-NorthWest.is
 
-pub returns-in-err-forth : goal.returns-in-err-forth
-returns-in-err-forth c =
-    c.from-residual-in-err-forth.ensures ∙ ap (slide Back c.args.self.at.row c.args.self.shape.rows c.args.self.shape.columns) c.in-err-forth.ensures ∙
+pub returns-in_err-forth-in-NorthEast : goal.returns-in_err-forth-in-NorthEast
+returns-in_err-forth-in-NorthEast c =
+    c.from_residual-in_err-forth-in-NorthEast.ensures ∙ ap (slide Back c.args.self.at.row c.args.self.shape.rows c.args.self.shape.columns) c.in_err-forth-in-NorthEast.ensures ∙
     neighbour_strides c.args.self c.args.direction NorthEast c.in-NorthEast.is
 
-pub returns-in-ok-forth : goal.returns-in-ok-forth
-returns-in-ok-forth c =
-    c.back-in-NorthEast.ensures ∙ ap (slide Back c.args.self.at.row c.args.self.shape.rows c.args.self.shape.columns) c.in-ok-forth.ensures ∙
+pub returns-in_ok-forth-in-NorthEast : goal.returns-in_ok-forth-in-NorthEast
+returns-in_ok-forth-in-NorthEast c =
+    c.back-in-NorthEast.ensures ∙ ap (slide Back c.args.self.at.row c.args.self.shape.rows c.args.self.shape.columns) c.in_ok-forth-in-NorthEast.ensures ∙
     neighbour_strides c.args.self c.args.direction NorthEast c.in-NorthEast.is
 
-pub returns-in-err-back-2 : goal.returns-in-err-back-2
-returns-in-err-back-2 c =
-    c.from-residual-in-err-back-2.ensures ∙ ap (slide Forth c.args.self.at.row c.args.self.shape.rows c.args.self.shape.columns) c.in-err-back-2.ensures ∙
+pub returns-in_err-back-in-SouthWest : goal.returns-in_err-back-in-SouthWest
+returns-in_err-back-in-SouthWest c =
+    c.from_residual-in_err-back-in-SouthWest.ensures ∙ ap (slide Forth c.args.self.at.row c.args.self.shape.rows c.args.self.shape.columns) c.in_err-back-in-SouthWest.ensures ∙
     neighbour_strides c.args.self c.args.direction SouthWest c.in-SouthWest.is
 
-pub returns-in-ok-back-2 : goal.returns-in-ok-back-2
-returns-in-ok-back-2 c =
-    c.forth-in-SouthWest.ensures ∙ ap (slide Forth c.args.self.at.row c.args.self.shape.rows c.args.self.shape.columns) c.in-ok-back-2.ensures ∙
+pub returns-in_ok-back-in-SouthWest : goal.returns-in_ok-back-in-SouthWest
+returns-in_ok-back-in-SouthWest c =
+    c.forth-in-SouthWest.ensures ∙ ap (slide Forth c.args.self.at.row c.args.self.shape.rows c.args.self.shape.columns) c.in_ok-back-in-SouthWest.ensures ∙
     neighbour_strides c.args.self c.args.direction SouthWest c.in-SouthWest.is
 
-pub returns-in-err-forth-2 : goal.returns-in-err-forth-2
-returns-in-err-forth-2 c =
-    c.from-residual-in-err-forth-2.ensures ∙ ap (slide Forth c.args.self.at.row c.args.self.shape.rows c.args.self.shape.columns) c.in-err-forth-2.ensures ∙
+pub returns-in_err-forth-in-SouthEast : goal.returns-in_err-forth-in-SouthEast
+returns-in_err-forth-in-SouthEast c =
+    c.from_residual-in_err-forth-in-SouthEast.ensures ∙ ap (slide Forth c.args.self.at.row c.args.self.shape.rows c.args.self.shape.columns) c.in_err-forth-in-SouthEast.ensures ∙
     neighbour_strides c.args.self c.args.direction SouthEast c.in-SouthEast.is
 
-pub returns-in-ok-forth-2 : goal.returns-in-ok-forth-2
-returns-in-ok-forth-2 c =
-    c.forth-in-SouthEast-2.ensures ∙ ap (slide Forth c.args.self.at.row c.args.self.shape.rows c.args.self.shape.columns) c.in-ok-forth-2.ensures ∙
+pub returns-in_ok-forth-in-SouthEast : goal.returns-in_ok-forth-in-SouthEast
+returns-in_ok-forth-in-SouthEast c =
+    c.forth-in-SouthEast-2.ensures ∙ ap (slide Forth c.args.self.at.row c.args.self.shape.rows c.args.self.shape.columns) c.in_ok-forth-in-SouthEast.ensures ∙
     neighbour_strides c.args.self c.args.direction SouthEast c.in-SouthEast.is
