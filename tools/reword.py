@@ -19,10 +19,11 @@ def comment(line):
     return line.lstrip().startswith(("//", "--"))
 
 
-def turn(line):
+def turn(line, path):
     line = re.sub(r"(?<![\w-])Ground\.ground(?![\w-])", "Ground.meaning", line)
     line = re.sub(r"(?<![\w-])ghost ground(?![\w-])", "ghost meaning", line)
-    line = re.sub(r"\(ground (?=s\)|self\.)", "(meaning ", line)
+    if path.endswith(".rt"):
+        line = re.sub(r"\(ground (?=s\)|self\.)", "(meaning ", line)
     return re.sub(r"(?<![\w-])ground(?![\w-])", "area", line)
 
 
@@ -32,7 +33,7 @@ def main():
         with open(path, encoding="utf-8") as f:
             text = f.read()
         aliases = set(ALIAS.findall(text))
-        lines = [l if comment(l) else turn(l) for l in text.split("\n")]
+        lines = [l if comment(l) else turn(l, path) for l in text.split("\n")]
         new = "\n".join(lines)
         for a in aliases:
             new = re.sub(r"(?<![\w-])" + re.escape(a) + r"(?![\w-])", a.replace("-", "_"), new)

@@ -42,13 +42,13 @@ fn beside(site: Site, down: u32, across: u32) -> Option<u32>
 }
 
 // Whether the place at the offsets is open to the net. One outside the board is skipped.
-fn is_clear<G: Ground>(ground: &G, site: Site, down: u32, across: u32, net: u16) -> bool
+fn is_clear<G: Ground>(area: &G, site: Site, down: u32, across: u32, net: u16) -> bool
     requires rows { down < 3 }
     requires columns { across < 3 }
-    ensures { result ≡ is_clear (G.Ground.ground ground.now) net (beyond site.shape site.at (offset_way down across)) }
+    ensures { result ≡ is_clear (G.Ground.meaning area.now) net (beyond site.shape site.at (offset_way down across)) }
 {
     match beside(site, down, across) {
-        Some(there) => ground.is_open(there, net),
+        Some(there) => area.is_open(there, net),
         None => true,
     }
 }
@@ -70,9 +70,9 @@ impl<'a, S> Clearance<'a, S> {
 }
 
 impl<'a, S: Ground> Ground for Clearance<'a, S> {
-    ghost ground = { λ s. clear_ground (S.Ground.ground s.below.now) };
+    ghost meaning = { λ s. clear_ground (S.Ground.meaning s.below.now) };
 
-    ghost sound = { λ s. clear_sound (S.Ground.ground s.below.now) (S.Ground.sound s.below.now) };
+    ghost sound = { λ s. clear_sound (S.Ground.meaning s.below.now) (S.Ground.sound s.below.now) };
 
     fn shape(&self) -> Shape {
         self.below.shape()
@@ -81,8 +81,8 @@ impl<'a, S: Ground> Ground for Clearance<'a, S> {
     // Whether the place and its straight and diagonal neighbours are open below. At most nine questions are asked below,
     // none after the first place that is closed.
     fn is_open(&self, place: u32, net: u16) -> bool
-        ensures is { result ≡ (clear_ground (S.Ground.ground self.now.below.now)).opened place net }
-        ensures around { (result ≡ true) ↔ ClearAround (S.Ground.ground self.now.below.now) place net }
+        ensures is { result ≡ (clear_ground (S.Ground.meaning self.now.below.now)).opened place net }
+        ensures around { (result ≡ true) ↔ ClearAround (S.Ground.meaning self.now.below.now) place net }
     {
         let Some(site) = self.below.shape().site(place) else {
             return false;

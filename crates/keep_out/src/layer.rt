@@ -44,9 +44,9 @@ impl<'a, S> KeepOut<'a, S> {
 }
 
 impl<'a, S: Ground> Ground for KeepOut<'a, S> {
-    ghost ground = { λ s. apart_ground (held_rows s.table) (S.Ground.ground s.below.now) };
+    ghost meaning = { λ s. apart_ground (held_rows s.table) (S.Ground.meaning s.below.now) };
 
-    ghost sound = { λ s. test_sound (is_apart (held_rows s.table)) (S.Ground.ground s.below.now) (S.Ground.sound s.below.now) };
+    ghost sound = { λ s. test_sound (is_apart (held_rows s.table)) (S.Ground.meaning s.below.now) (S.Ground.sound s.below.now) };
 
     fn shape(&self) -> Shape {
         self.below.shape()
@@ -54,8 +54,8 @@ impl<'a, S: Ground> Ground for KeepOut<'a, S> {
 
     // Whether the place is open below and lies in no rectangle that is held.
     fn is_open(&self, place: u32, net: u16) -> bool
-        ensures is { result ≡ (apart_ground (held_rows self.now.table) (S.Ground.ground self.now.below.now)).opened place net }
-        ensures apart { (result ≡ true) ↔ OpenApart (held_rows self.now.table) (S.Ground.ground self.now.below.now) place net }
+        ensures is { result ≡ (apart_ground (held_rows self.now.table) (S.Ground.meaning self.now.below.now)).opened place net }
+        ensures apart { (result ≡ true) ↔ OpenApart (held_rows self.now.table) (S.Ground.meaning self.now.below.now) place net }
     {
         if !self.below.is_open(place, net) {
             return false;

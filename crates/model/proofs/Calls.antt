@@ -17,7 +17,7 @@ copper_told b p v e =
     some_none (e ∙ t))
     (cases_lt p (places b))
 
-pub lay_ok : (b : Sheet) (p n : ℕ) → p < places b → is_net n ≡ true → b.ground.opened p n ≡ true → bare_at b p ≤ spare b → lay_answer b p n ≡ Ok tt
+pub lay_ok : (b : Sheet) (p n : ℕ) → p < places b → is_net n ≡ true → b.area.opened p n ≡ true → bare_at b p ≤ spare b → lay_answer b p n ≡ Ok tt
 lay_ok b p n l k o m =
     let inside = lt-ltb p (places b) l in
     let enough = le-leb (bare_at b p) (spare b) m in

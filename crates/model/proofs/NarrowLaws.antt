@@ -42,7 +42,7 @@ module _ (f : Ground → ℕ → ℕ → Bool) (law : Narrows f) where
 
   module _ (g g' : Ground) (m m' : Metal) where
     abbrev same : sheet g' m' ≡ sheet g m → sheet (narrowed f g') m' ≡ sheet (narrowed f g) m
-    same e = ap (λ (b : Sheet). sheet (narrowed f b.ground) b.metal) e
+    same e = ap (λ (b : Sheet). sheet (narrowed f b.area) b.metal) e
 
     wrote : (p v : ℕ) → Wrote (sheet g m) (sheet g' m') p v → Wrote (sheet (narrowed f g) m) (sheet (narrowed f g') m') p v
     wrote p v w = record { shape = w.shape; limit = w.limit; copper = w.copper }

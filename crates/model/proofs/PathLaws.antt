@@ -50,13 +50,13 @@ each_more P p ps here more q h =
 module _ (b : Sheet) (n : ℕ) where
   -- a place that the questions pass
   abbrev Passes : ℕ → Type 0
-  Passes q = (q < places b) × (b.ground.opened q n ≡ true)
+  Passes q = (q < places b) × (b.area.opened q n ≡ true)
 
   along_passes : (ps : List ℕ) (rest : Result (Unit {0}) Refusal) → along b ps n rest ≡ Ok tt → ((q : ℕ) → on q ps ≡ true → Passes q) × (rest ≡ Ok tt)
   along_passes [] rest e = (λ q h. absurd (true≢false (sym h)), e)
   along_passes (p ∷ ps) rest e =
       let first = passed (ltb p (places b)) (refusal 3 p) _ e in
-      let second = passed (b.ground.opened p n) (refusal 5 p) (along b ps n rest) first.1 in
+      let second = passed (b.area.opened p n) (refusal 5 p) (along b ps n rest) first.1 in
       let later = along_passes ps rest second.1 in
       (each_more Passes p ps (ltb-true p (places b) first.0, second.0) later.0, later.1)
 
@@ -65,10 +65,10 @@ module _ (b : Sheet) (n : ℕ) where
   along_open (p ∷ ps) rest h =
       let here = h p (or_left (eqb p p) (on p ps) (eq-eqb p p refl)) in
       let later = along_open ps rest (λ q k. h q (or_right (eqb q p) (on q ps) k)) in
-      ask_yes (ltb p (places b)) (refusal 3 p) _ (lt-ltb p (places b) here.0) ∙ (ask_yes (b.ground.opened p n) (refusal 5 p) (along b ps n rest) here.1 ∙ later)
+      ask_yes (ltb p (places b)) (refusal 3 p) _ (lt-ltb p (places b) here.0) ∙ (ask_yes (b.area.opened p n) (refusal 5 p) (along b ps n rest) here.1 ∙ later)
 
   -- a path of places that are open to a net is asked for its spare alone
-  pub cover_open : Sound b.ground → (ps : List ℕ) → is_net n ≡ true → ((q : ℕ) → on q ps ≡ true → b.ground.opened q n ≡ true) → cover_answer b ps n ≡ spare_answer b ps
+  pub cover_open : Sound b.area → (ps : List ℕ) → is_net n ≡ true → ((q : ℕ) → on q ps ≡ true → b.area.opened q n ≡ true) → cover_answer b ps n ≡ spare_answer b ps
   cover_open s ps k h =
       ask_yes (is_net n) (refusal 4 n) (along b ps n (spare_answer b ps)) k
       ∙ along_open ps (spare_answer b ps) (λ q o. (s.inside q n (h q o), h q o))
@@ -115,17 +115,17 @@ module _ (b : Sheet) (ps : List ℕ) (n : ℕ) where
     pub asked_outside : places b ≤ get_or ps i 0 → cover_answer b ps n ≡ Err (refusal 3 (get_or ps i 0))
     asked_outside h = next ∙ ask_no (ltb (get_or ps i 0) (places b)) (refusal 3 (get_or ps i 0)) _ (le-ltb (get_or ps i 0) (places b) h)
 
-    past_shape : get_or ps i 0 < places b → cover_answer b ps n ≡ ask (b.ground.opened (get_or ps i 0) n) (refusal 5 (get_or ps i 0)) (along b (drop (i + 1) ps) n (spare_answer b ps))
+    past_shape : get_or ps i 0 < places b → cover_answer b ps n ≡ ask (b.area.opened (get_or ps i 0) n) (refusal 5 (get_or ps i 0)) (along b (drop (i + 1) ps) n (spare_answer b ps))
     past_shape h = next ∙ ask_yes (ltb (get_or ps i 0) (places b)) (refusal 3 (get_or ps i 0)) _ (lt-ltb (get_or ps i 0) (places b) h)
 
-    pub asked_closed : get_or ps i 0 < places b → b.ground.opened (get_or ps i 0) n ≡ false → cover_answer b ps n ≡ Err (refusal 5 (get_or ps i 0))
-    asked_closed h o = past_shape h ∙ ask_no (b.ground.opened (get_or ps i 0) n) (refusal 5 (get_or ps i 0)) (along b (drop (i + 1) ps) n (spare_answer b ps)) o
+    pub asked_closed : get_or ps i 0 < places b → b.area.opened (get_or ps i 0) n ≡ false → cover_answer b ps n ≡ Err (refusal 5 (get_or ps i 0))
+    asked_closed h o = past_shape h ∙ ask_no (b.area.opened (get_or ps i 0) n) (refusal 5 (get_or ps i 0)) (along b (drop (i + 1) ps) n (spare_answer b ps)) o
 
-    pub asked_more : get_or ps i 0 < places b → b.ground.opened (get_or ps i 0) n ≡ true → (more : ℕ) → more ≡ min (bare + bare_at b (get_or ps i 0)) 4294967295 → Asked b ps n (i + 1) more
+    pub asked_more : get_or ps i 0 < places b → b.area.opened (get_or ps i 0) n ≡ true → (more : ℕ) → more ≡ min (bare + bare_at b (get_or ps i 0)) 4294967295 → Asked b ps n (i + 1) more
     asked_more h o more e =
         let taken : bare_entries b (take (i + 1) ps) ≡ bare_entries b (take i ps) + bare_at b (get_or ps i 0) = ap (bare_entries b) (take_more ps i 0 l) ∙ bare_push b (take i ps) (get_or ps i 0) in
         record {
-          left = past_shape h ∙ ask_yes (b.ground.opened (get_or ps i 0) n) (refusal 5 (get_or ps i 0)) (along b (drop (i + 1) ps) n (spare_answer b ps)) o;
+          left = past_shape h ∙ ask_yes (b.area.opened (get_or ps i 0) n) (refusal 5 (get_or ps i 0)) (along b (drop (i + 1) ps) n (spare_answer b ps)) o;
           counted = let c = a.counted in omega arith;
         }
 
@@ -183,7 +183,7 @@ module _ (b : Sheet) (ps : List ℕ) (n : ℕ) (c : Coverable b ps n) where
     room =
         let enough = c.enough in
         ⊎_elim
-        (λ (many : 4294967295 < bare_entries b ps). inr (omega (arith, count_most b.ground.shape)))
+        (λ (many : 4294967295 < bare_entries b ps). inr (omega (arith, count_most b.area.shape)))
         (λ (few : bare_entries b ps ≤ 4294967295). inl (omega arith))
         (cases_lt 4294967295 (bare_entries b ps));
   }
@@ -255,7 +255,7 @@ module _ (b : Sheet) (n : ℕ) (k : n ≡ 0 → ⊥) where
 pub bare_exact : (b : Sheet) (ps : List ℕ) → Distinct ps → ((q : ℕ) → on q ps ≡ true → q < places b) → bare_on b ps ≡ bare_entries b ps
 bare_exact b ps d h =
     let t = laid_tally b 1 (λ e. omega arith) ps d h in
-    omega (arith, tally_most (laid_copper b.metal.copper ps 1) (places b), count_most b.ground.shape)
+    omega (arith, tally_most (laid_copper b.metal.copper ps 1) (places b), count_most b.area.shape)
 
 -- and the spare falls by just those
 pub covered_spare : (b b' : Sheet) (ps : List ℕ) (n : ℕ) → Coverable b ps n → Covered b b' ps n → Distinct ps → spare b' ≡ spare b - bare_entries b ps
@@ -268,7 +268,7 @@ covered_spare b b' ps n c w d =
     omega arith
 
 -- A WIRE, a path of distinct places that are open to a net: it is laid exactly if its bare places are within the spare
-pub wire_exact : (b : Sheet) (ps : List ℕ) (n : ℕ) → Sound b.ground → is_net n ≡ true → ((q : ℕ) → on q ps ≡ true → b.ground.opened q n ≡ true) → Distinct ps → (cover_answer b ps n ≡ Ok tt) ↔ (bare_entries b ps ≤ spare b)
+pub wire_exact : (b : Sheet) (ps : List ℕ) (n : ℕ) → Sound b.area → is_net n ≡ true → ((q : ℕ) → on q ps ≡ true → b.area.opened q n ≡ true) → Distinct ps → (cover_answer b ps n ≡ Ok tt) ↔ (bare_entries b ps ≤ spare b)
 wire_exact b ps n s k o d =
     let inside = λ (q : ℕ) (h : on q ps ≡ true). s.inside q n (o q h) in
     let e = bare_exact b ps d inside in

@@ -30,7 +30,7 @@ spare_answer b ps = ask (nat_le (bare_on b ps) (spare b)) (refusal 6 (bare_on b 
 
 abbrev pub along : Sheet → List ℕ → ℕ → Result (Unit {0}) Refusal → Result (Unit {0}) Refusal
 along b [] n rest = rest
-along b (p ∷ ps) n rest = ask (nat_lt p (places b)) (refusal 3 p) (ask (b.ground.opened p n) (refusal 5 p) (along b ps n rest))
+along b (p ∷ ps) n rest = ask (nat_lt p (places b)) (refusal 3 p) (ask (b.area.opened p n) (refusal 5 p) (along b ps n rest))
 
 abbrev pub cover_answer : Sheet → List ℕ → ℕ → Result (Unit {0}) Refusal
 cover_answer b ps n = ask (is_net n) (refusal 4 n) (along b ps n (spare_answer b ps))
@@ -39,7 +39,7 @@ cover_answer b ps n = ask (is_net n) (refusal 4 n) (along b ps n (spare_answer b
 pub record Coverable (b : Sheet) (ps : List ℕ) (n : ℕ) : Type 0 where
   pub net : is_net n ≡ true
   pub inside : (q : ℕ) → on q ps ≡ true → q < places b
-  pub opened : (q : ℕ) → on q ps ≡ true → b.ground.opened q n ≡ true
+  pub opened : (q : ℕ) → on q ps ≡ true → b.area.opened q n ≡ true
   pub enough : bare_on b ps ≤ spare b
 
 -- THE PATH IS LAID EXACTLY IF it can be
@@ -49,7 +49,7 @@ CoverIsExact b ps n = (cover_answer b ps n ≡ Ok tt) ↔ Coverable b ps n
 -- b' has the net on each place of the path, and all other copper, the shape and the limit of b; what was open to the net
 -- stays open to it
 pub record Covered (b b' : Sheet) (ps : List ℕ) (n : ℕ) : Type 0 where
-  pub shape : b'.ground.shape ≡ b.ground.shape
+  pub shape : b'.area.shape ≡ b.area.shape
   pub limit : b'.metal.limit ≡ b.metal.limit
   pub copper : (q : ℕ) → b'.metal.copper q ≡ cond (on q ps) n (b.metal.copper q)
   pub stays : StaysOpen b b' n

@@ -26,14 +26,14 @@ pub record Metal : Type 0 where
 
 -- A SHEET is a ground on which copper can be laid.
 pub record Sheet : Type 0 where
-  pub ground : Ground
+  pub area : Ground
   pub metal : Metal
 
 abbrev pub sheet : Ground → Metal → Sheet
-sheet g m = record { ground = g; metal = m }
+sheet g m = record { area = g; metal = m }
 
 abbrev pub places : Sheet → ℕ
-places b = count_of b.ground.shape
+places b = count_of b.area.shape
 
 -- how many of the first n places are not bare
 unfoldable pub tally : (ℕ → ℕ) → ℕ → ℕ
@@ -47,7 +47,7 @@ spare b = b.metal.limit - tally b.metal.copper (places b)
 -- WHAT EVERY SHEET KEEPS, as the copper question shows
 pub record Tied (b : Sheet) : Type 0 where
   -- a place open to a net is bare or carries that net
-  pub free : (p n : ℕ) → b.ground.opened p n ≡ true → (b.metal.copper p ≡ 0) ⊎ (b.metal.copper p ≡ n)
+  pub free : (p n : ℕ) → b.area.opened p n ≡ true → (b.metal.copper p ≡ 0) ⊎ (b.metal.copper p ≡ n)
   -- copper is at most 65,535, and there is none outside the shape
   pub small : (p : ℕ) → b.metal.copper p ≤ 65535
   pub outside : (p : ℕ) → places b ≤ p → b.metal.copper p ≡ 0
@@ -74,7 +74,7 @@ bare_at b p = cond (b.metal.copper p == 0) 1 0
 abbrev pub lay_answer : Sheet → ℕ → ℕ → Result (Unit {0}) Refusal
 lay_answer b p n =
     ask (nat_lt p (places b)) (refusal 3 p)
-    (ask (is_net n) (refusal 4 n) (ask (b.ground.opened p n) (refusal 5 p) (ask (nat_le (bare_at b p) (spare b)) (refusal 6 (bare_at b p)) (Ok tt))))
+    (ask (is_net n) (refusal 4 n) (ask (b.area.opened p n) (refusal 5 p) (ask (nat_le (bare_at b p) (spare b)) (refusal 6 (bare_at b p)) (Ok tt))))
 
 abbrev pub lift_answer : Sheet → ℕ → Result (Unit {0}) Refusal
 lift_answer b p = ask (nat_lt p (places b)) (refusal 3 p) (ask (is_net (b.metal.copper p)) (refusal 8 p) (Ok tt))
@@ -90,13 +90,13 @@ put f p v q = cond (q == p) v (f q)
 
 -- b' has v at p, and all other copper, the shape and the limit of b
 pub record Wrote (b b' : Sheet) (p v : ℕ) : Type 0 where
-  pub shape : b'.ground.shape ≡ b.ground.shape
+  pub shape : b'.area.shape ≡ b.area.shape
   pub limit : b'.metal.limit ≡ b.metal.limit
   pub copper : (q : ℕ) → b'.metal.copper q ≡ put b.metal.copper p v q
 
 -- what was open to the net stays open to it
 abbrev pub StaysOpen : Sheet → Sheet → ℕ → Type 0
-StaysOpen b b' n = (q : ℕ) → b.ground.opened q n ≡ true → b'.ground.opened q n ≡ true
+StaysOpen b b' n = (q : ℕ) → b.area.opened q n ≡ true → b'.area.opened q n ≡ true
 
 -- LAY gives one place to a net; what was open to that net stays open to it
 abbrev pub Laid : Sheet → Sheet → ℕ → ℕ → Result (Unit {0}) SheetFault → Type 0
@@ -115,7 +115,7 @@ Barred b b' p (Err f) = b' ≡ b
 
 -- WIPE makes every place bare
 pub record Wiped (b b' : Sheet) : Type 0 where
-  pub shape : b'.ground.shape ≡ b.ground.shape
+  pub shape : b'.area.shape ≡ b.area.shape
   pub limit : b'.metal.limit ≡ b.metal.limit
   pub copper : (q : ℕ) → b'.metal.copper q ≡ 0
 

@@ -18,9 +18,9 @@ passed b f rest e = ⊎_elim
     (cases_Bool b)
 
 -- f is what lies over the keep-out, s the sheet below it
-module _ {S : Type 0} (ground : S → Ground) (metal : S → Metal) (f : Ground → Ground) where
+module _ {S : Type 0} (area : S → Ground) (metal : S → Metal) (f : Ground → Ground) where
   abbrev answer_at : List Row → S → List ℕ → ℕ → Result (Unit {0}) Refusal
-  answer_at xs s p n = cover_answer (sheet (f (apart_ground xs (ground s))) (metal s)) p n
+  answer_at xs s p n = cover_answer (sheet (f (apart_ground xs (area s))) (metal s)) p n
 
   pub apart_answer : (x : Row) (s s' s'' : S) (xs xs' : List Row) (p : List ℕ) (n : ℕ) (a : Result (Unit {0}) Refusal) → s' ≡ s → s'' ≡ s' → xs ≡ [] → xs' ≡ xs ++ (x ∷ []) → Ok tt ≡ add_answer xs x → a ≡ answer_at xs' s'' p n → a ≡ ask (is_rectangle x) (refusal 1 0) (answer_at (x ∷ []) s p n)
   apart_answer x s s' s'' xs xs' p n a same stays none one added answer =

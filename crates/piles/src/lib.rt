@@ -3,7 +3,7 @@
 
 ghost use Rattle.std.specs.Prelude.{◌≡◌, [], ◌∷◌};
 ghost use Rattle.grid.specs.Faults.{refusal};
-ghost use Rattle.model.specs.Sheets.{sheet as sheet-of, answered, ask};
+ghost use Rattle.model.specs.Sheets.{sheet as sheet_of, answered, ask};
 ghost use Rattle.model.specs.Paths.{cover_answer};
 ghost use Rattle.model.specs.Clear.{clear_ground};
 ghost use Rattle.keep_out.specs.Rectangles.{is_rectangle};
@@ -18,7 +18,7 @@ use sheet::Sheet;
 
 // Lays a path with clearance, or changes nothing.
 pub fn cover_clear<S: Sheet>(below: &mut S, path: &[u32], net: u16) -> Result<(), SheetFault>
-    ensures answer { answered result ≡ cover_answer (sheet-of (clear_ground (S.Ground.ground below.old)) (S.Sheet.metal below.old)) path.now net }
+    ensures answer { answered result ≡ cover_answer (sheet_of (clear_ground (S.Ground.meaning below.old)) (S.Sheet.metal below.old)) path.now net }
     ensures copper { CopperCovered (S.Sheet.metal below.old) (S.Sheet.metal below.new) path.now net result }
     ensures kept { S.Sheet.held below.new ≡ S.Sheet.held below.old }
 {
@@ -33,7 +33,7 @@ pub fn cover_apart<S: Sheet>(
     path: &[u32],
     net: u16,
 ) -> Result<(), SheetFault>
-    ensures answer { answered result ≡ ask (is_rectangle row) (refusal 1 0) (cover_answer (sheet-of (apart_ground (row ∷ []) (S.Ground.ground below.old)) (S.Sheet.metal below.old)) path.now net) }
+    ensures answer { answered result ≡ ask (is_rectangle row) (refusal 1 0) (cover_answer (sheet_of (apart_ground (row ∷ []) (S.Ground.meaning below.old)) (S.Sheet.metal below.old)) path.now net) }
     ensures copper { CopperCovered (S.Sheet.metal below.old) (S.Sheet.metal below.new) path.now net result }
     ensures kept { S.Sheet.held below.new ≡ S.Sheet.held below.old }
 {
@@ -49,7 +49,7 @@ pub fn cover_apart_over_clear<S: Sheet>(
     path: &[u32],
     net: u16,
 ) -> Result<(), SheetFault>
-    ensures answer { answered result ≡ ask (is_rectangle row) (refusal 1 0) (cover_answer (sheet-of (apart_ground (row ∷ []) (clear_ground (S.Ground.ground below.old))) (S.Sheet.metal below.old)) path.now net) }
+    ensures answer { answered result ≡ ask (is_rectangle row) (refusal 1 0) (cover_answer (sheet_of (apart_ground (row ∷ []) (clear_ground (S.Ground.meaning below.old))) (S.Sheet.metal below.old)) path.now net) }
     ensures copper { CopperCovered (S.Sheet.metal below.old) (S.Sheet.metal below.new) path.now net result }
     ensures kept { S.Sheet.held below.new ≡ S.Sheet.held below.old }
 {
@@ -64,7 +64,7 @@ pub fn cover_clear_over_apart<S: Sheet>(
     path: &[u32],
     net: u16,
 ) -> Result<(), SheetFault>
-    ensures answer { answered result ≡ ask (is_rectangle row) (refusal 1 0) (cover_answer (sheet-of (clear_ground (apart_ground (row ∷ []) (S.Ground.ground below.old))) (S.Sheet.metal below.old)) path.now net) }
+    ensures answer { answered result ≡ ask (is_rectangle row) (refusal 1 0) (cover_answer (sheet_of (clear_ground (apart_ground (row ∷ []) (S.Ground.meaning below.old))) (S.Sheet.metal below.old)) path.now net) }
     ensures copper { CopperCovered (S.Sheet.metal below.old) (S.Sheet.metal below.new) path.now net result }
     ensures kept { S.Sheet.held below.new ≡ S.Sheet.held below.old }
 {

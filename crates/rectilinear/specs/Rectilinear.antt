@@ -1,5 +1,5 @@
 -- The rectilinear tariff: a cost is one number, a straight step adds 1, a via 8, and there are no diagonals.
-use Rattle.std.specs.Prelude.{ℕ, ◌+◌, Bool, true, false, cond, Some, None, Option, nat_le}
+use Rattle.std.specs.Prelude.{ltb, ℕ, ◌+◌, Bool, true, false, cond, Some, None, Option, nat_le}
 use Rattle.grid.specs.declared.step.Step.{Step}
 use Rattle.grid.specs.declared.step.Step.TheVariants.{Straight, Diagonal, Via}
 use Rattle.tariff.specs.Rates.{Rates}

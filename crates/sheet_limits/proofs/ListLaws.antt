@@ -25,7 +25,7 @@ module _ (s : Shape) (xs ys zs ps : List ℕ) (n : ℕ) (made : Made s xs ys) wh
 
   same_shape : (t : Shape) (r : Result (Unit {0}) SheetFault) → Covers (wide_sheet s ys) (wide_sheet t zs) ps n r → t ≡ s
   same_shape t (Ok u) w = w.shape
-  same_shape t (Err f) w = ap (λ (b : Sheet). b.ground.shape) w
+  same_shape t (Err f) w = ap (λ (b : Sheet). b.area.shape) w
 
   covers_list : (r : Result (Unit {0}) SheetFault) → Covers (wide_sheet s ys) (wide_sheet s zs) ps n r → (loan loan' : ℕ) → wide_held s loan' zs ≡ wide_held s loan ys → Wires s xs zs ps n r
   covers_list (Ok u) w loan loan' kept = λ long. covered_list long w loan loan' kept

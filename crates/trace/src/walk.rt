@@ -43,14 +43,14 @@ impl<'a, T: Tariff> Iterator for Trace<'a, T> {
 
 // The trace from the goal over the labels of the board's places, if there is a label for each (2).
 pub(crate) fn begin<'a, G: Ground, T: Tariff>(
-    ground: &G,
+    area: &G,
     start: u32,
     goal: u32,
     labels: &'a [Option<T::Cost>],
 ) -> Result<Trace<'a, T>, SearchFault>
-    ensures { Begun T.Tariff.rates (G.Ground.ground ground.now) start goal labels.now result }
+    ensures { Begun T.Tariff.rates (G.Ground.meaning area.now) start goal labels.now result }
 {
-    let shape = ground.shape();
+    let shape = area.shape();
     let places = shape.places();
     if labels.len() < places as usize {
         return Err(SheetFault::ShortList(places).into());

@@ -1,6 +1,6 @@
 // The wire to a goal, traced back over labels: its places counted and written.
 ghost use Rattle.std.specs.Prelude.{◌≡◌, ◌-◌, ◌<◌, ◌≤◌, reverse, length, Ok, ◌==◌, slice_set};
-ghost use Rattle.model.specs.Sheets.{sheet as sheet-of};
+ghost use Rattle.model.specs.Sheets.{sheet as sheet_of};
 ghost use Rattle.wave.specs.Questions.{search_answered, unless, refused_by};
 ghost use Rattle.trace.specs.Trace.{traced, bare_on, trace_answer, room_asks, write_answer, path_after, AfterSearch};
 ghost use Rattle.trace.specs.Walk.{places_left};
@@ -21,16 +21,16 @@ fn count<T: Tariff>(trace: Trace<'_, T>) -> u32
 // How many places the wire has that is traced back over the labels from the goal. Asks whether there is a label for each
 // place (2).
 pub fn wire_length<G: Ground, T: Tariff>(
-    ground: &G,
+    area: &G,
     net: u16,
     start: u32,
     goal: u32,
     labels: &[Option<T::Cost>],
 ) -> Result<u32, SearchFault>
-    ensures answer { search_answered result ≡ trace_answer (G.Ground.ground ground.now) (length labels.now) (length (traced T.Tariff.rates (G.Ground.ground ground.now) net start goal labels.now)) }
-    ensures wire { AfterSearch T.Tariff.rates (G.Ground.ground ground.now) net start goal labels.now (λ ps. search_answered result ≡ trace_answer (G.Ground.ground ground.now) (length labels.now) (length ps)) }
+    ensures answer { search_answered result ≡ trace_answer (G.Ground.meaning area.now) (length labels.now) (length (traced T.Tariff.rates (G.Ground.meaning area.now) net start goal labels.now)) }
+    ensures wire { AfterSearch T.Tariff.rates (G.Ground.meaning area.now) net start goal labels.now (λ ps. search_answered result ≡ trace_answer (G.Ground.meaning area.now) (length labels.now) (length ps)) }
 {
-    let trace = begin::<G, T>(ground, start, goal, labels)?;
+    let trace = begin::<G, T>(area, start, goal, labels)?;
     Ok(count(trace))
 }
 
@@ -47,7 +47,7 @@ fn is_bare<S: Sheet>(sheet: &S, place: u32) -> bool
 // How many places that a trace gives are bare.
 fn count_bare<S: Sheet, T: Tariff>(sheet: &S, trace: Trace<'_, T>) -> u32
     requires { length (places_left T.Tariff.rates trace) ≤ 2097153 }
-    ensures { result ≡ bare_on (sheet-of (S.Ground.ground sheet.now) (S.Sheet.metal sheet.now)) (places_left T.Tariff.rates trace.entry) }
+    ensures { result ≡ bare_on (sheet_of (S.Ground.meaning sheet.now) (S.Sheet.metal sheet.now)) (places_left T.Tariff.rates trace.entry) }
 {
     let mut bare = 0;
     for place in trace {
@@ -67,8 +67,8 @@ pub fn wire_bare<S: Sheet, T: Tariff>(
     goal: u32,
     labels: &[Option<T::Cost>],
 ) -> Result<u32, SearchFault>
-    ensures answer { search_answered result ≡ trace_answer (S.Ground.ground sheet.now) (length labels.now) (bare_on (sheet-of (S.Ground.ground sheet.now) (S.Sheet.metal sheet.now)) (traced T.Tariff.rates (S.Ground.ground sheet.now) net start goal labels.now)) }
-    ensures wire { AfterSearch T.Tariff.rates (S.Ground.ground sheet.now) net start goal labels.now (λ ps. search_answered result ≡ trace_answer (S.Ground.ground sheet.now) (length labels.now) (bare_on (sheet-of (S.Ground.ground sheet.now) (S.Sheet.metal sheet.now)) ps)) }
+    ensures answer { search_answered result ≡ trace_answer (S.Ground.meaning sheet.now) (length labels.now) (bare_on (sheet_of (S.Ground.meaning sheet.now) (S.Sheet.metal sheet.now)) (traced T.Tariff.rates (S.Ground.meaning sheet.now) net start goal labels.now)) }
+    ensures wire { AfterSearch T.Tariff.rates (S.Ground.meaning sheet.now) net start goal labels.now (λ ps. search_answered result ≡ trace_answer (S.Ground.meaning sheet.now) (length labels.now) (bare_on (sheet_of (S.Ground.meaning sheet.now) (S.Sheet.metal sheet.now)) ps)) }
 {
     let trace = begin::<S, T>(sheet, start, goal, labels)?;
     Ok(count_bare(sheet, trace))
@@ -109,20 +109,20 @@ fn write_back<T: Tariff>(trace: Trace<'_, T>, path: &mut [u32])
 // and answers how many places it has. Asks whether there is a label for each place (2) and the list has room for the
 // wire (11).
 pub fn write_wire<G: Ground, T: Tariff>(
-    ground: &G,
+    area: &G,
     net: u16,
     start: u32,
     goal: u32,
     labels: &[Option<T::Cost>],
     path: &mut [u32],
 ) -> Result<u32, SearchFault>
-    ensures answer { search_answered result ≡ write_answer (G.Ground.ground ground.now) (length labels.now) (traced T.Tariff.rates (G.Ground.ground ground.now) net start goal labels.now) (length path.old) }
-    ensures after { path.new ≡ path_after (G.Ground.ground ground.now) (length labels.now) (traced T.Tariff.rates (G.Ground.ground ground.now) net start goal labels.now) path.old }
-    ensures wire { AfterSearch T.Tariff.rates (G.Ground.ground ground.now) net start goal labels.now (λ ps. (search_answered result ≡ write_answer (G.Ground.ground ground.now) (length labels.now) ps (length path.old)) × (path.new ≡ path_after (G.Ground.ground ground.now) (length labels.now) ps path.old)) }
+    ensures answer { search_answered result ≡ write_answer (G.Ground.meaning area.now) (length labels.now) (traced T.Tariff.rates (G.Ground.meaning area.now) net start goal labels.now) (length path.old) }
+    ensures after { path.new ≡ path_after (G.Ground.meaning area.now) (length labels.now) (traced T.Tariff.rates (G.Ground.meaning area.now) net start goal labels.now) path.old }
+    ensures wire { AfterSearch T.Tariff.rates (G.Ground.meaning area.now) net start goal labels.now (λ ps. (search_answered result ≡ write_answer (G.Ground.meaning area.now) (length labels.now) ps (length path.old)) × (path.new ≡ path_after (G.Ground.meaning area.now) (length labels.now) ps path.old)) }
 {
-    let places = wire_length::<G, T>(ground, net, start, goal, labels)?;
+    let places = wire_length::<G, T>(area, net, start, goal, labels)?;
     has_room(places, path.len())?;
-    let trace = begin::<G, T>(ground, start, goal, labels)?;
+    let trace = begin::<G, T>(area, start, goal, labels)?;
     write_back(trace, &mut path[0..places as usize]);
     Ok(places)
 }

@@ -11,7 +11,7 @@ use tariff::Tariff;
 
 // Offers a place a step from the place that was taken last, if it has no label and is open to the net.
 fn offer<G: Ground, T: Tariff, F: Front<T>>(
-    ground: &G,
+    area: &G,
     net: u16,
     to: u32,
     by: Step,
@@ -22,10 +22,10 @@ fn offer<G: Ground, T: Tariff, F: Front<T>>(
     requires served { to < (F.Front.view front.old).served }
     requires order { F.Front.ordered front.old }
     ensures order { F.Front.ordered front.new }
-    ensures offers { Offers T.Tariff.rates (G.Ground.ground ground.now) net labels.now (F.Front.view front.old) (F.Front.view front.new) (hop by to) }
+    ensures offers { Offers T.Tariff.rates (G.Ground.meaning area.now) net labels.now (F.Front.view front.old) (F.Front.view front.new) (hop by to) }
 {
     if labels[to as usize].is_none() {
-        if ground.is_open(to, net) {
+        if area.is_open(to, net) {
             let _ = front.put(to, by);
         }
     }
@@ -33,7 +33,7 @@ fn offer<G: Ground, T: Tariff, F: Front<T>>(
 
 // Offers the neighbours of a place in some directions.
 fn offer_all<G: Ground, T: Tariff, F: Front<T>>(
-    ground: &G,
+    area: &G,
     net: u16,
     site: Site,
     list: &[Direction],
@@ -44,18 +44,18 @@ fn offer_all<G: Ground, T: Tariff, F: Front<T>>(
     requires served { count_of site.shape ≤ (F.Front.view front.old).served }
     requires order { F.Front.ordered front.old }
     ensures order { F.Front.ordered front.new }
-    ensures offers { OffersAll T.Tariff.rates (G.Ground.ground ground.now) net labels.now (F.Front.view front.old) (F.Front.view front.new) (gather site.shape site.place list.now) }
+    ensures offers { OffersAll T.Tariff.rates (G.Ground.meaning area.now) net labels.now (F.Front.view front.old) (F.Front.view front.new) (gather site.shape site.place list.now) }
 {
     for direction in list {
         if let Some(to) = site.neighbour(*direction) {
-            offer::<G, T, F>(ground, net, to, direction.step(), labels, front);
+            offer::<G, T, F>(area, net, to, direction.step(), labels, front);
         }
     }
 }
 
 // Offers each neighbour of the place that was taken last.
 pub(crate) fn offer_around<G: Ground, T: Tariff, F: Front<T>>(
-    ground: &G,
+    area: &G,
     net: u16,
     shape: Shape,
     place: u32,
@@ -67,10 +67,10 @@ pub(crate) fn offer_around<G: Ground, T: Tariff, F: Front<T>>(
     requires served { count_of shape ≤ (F.Front.view front.old).served }
     requires order { F.Front.ordered front.old }
     ensures order { F.Front.ordered front.new }
-    ensures offers { OffersAll T.Tariff.rates (G.Ground.ground ground.now) net labels.now (F.Front.view front.old) (F.Front.view front.new) (around shape place) }
+    ensures offers { OffersAll T.Tariff.rates (G.Ground.meaning area.now) net labels.now (F.Front.view front.old) (F.Front.view front.new) (around shape place) }
 {
     let list = directions();
     if let Some(site) = shape.site(place) {
-        offer_all::<G, T, F>(ground, net, site, &list, labels, front);
+        offer_all::<G, T, F>(area, net, site, &list, labels, front);
     }
 }

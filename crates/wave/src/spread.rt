@@ -48,20 +48,20 @@ fn meets(goal: Option<u32>, place: u32) -> bool
 
 // Takes what waits and labels it, until nothing waits or the goal is taken; how many places that is.
 fn spread<G: Ground, T: Tariff, F: Front<T>>(
-    ground: &G,
+    area: &G,
     net: u16,
     start: u32,
     goal: Option<u32>,
     labels: &mut [Option<T::Cost>],
     front: &mut F,
 ) -> u32
-    requires fresh { Fresh T.Tariff.rates (maze (G.Ground.ground ground.now) net start) (state_of labels.old (F.Front.view front.old) 0) }
-    requires sized { length labels.old ≡ count_of (G.Ground.ground ground.now).shape }
-    requires served { count_of (G.Ground.ground ground.now).shape ≤ (F.Front.view front.old).served }
+    requires fresh { Fresh T.Tariff.rates (maze (G.Ground.meaning area.now) net start) (state_of labels.old (F.Front.view front.old) 0) }
+    requires sized { length labels.old ≡ count_of (G.Ground.meaning area.now).shape }
+    requires served { count_of (G.Ground.meaning area.now).shape ≤ (F.Front.view front.old).served }
     requires order { F.Front.ordered front.old }
-    ensures { Spread T.Tariff.rates (maze (G.Ground.ground ground.now) net start) goal labels.new result }
+    ensures { Spread T.Tariff.rates (maze (G.Ground.meaning area.now) net start) goal labels.new result }
 {
-    let shape = ground.shape();
+    let shape = area.shape();
     let mut count = 0;
     while let Some(found) = front.take() {
         labels[found.place as usize] = Some(found.cost);
@@ -69,22 +69,22 @@ fn spread<G: Ground, T: Tariff, F: Front<T>>(
         if meets(goal, found.place) {
             return count;
         }
-        offer_around::<G, T, F>(ground, net, shape, found.place, labels, front);
+        offer_around::<G, T, F>(area, net, shape, found.place, labels, front);
     }
     count
 }
 
 // Whether a wave may begin.
 fn wave_allowed<G: Ground, T: Tariff, F: Front<T>>(
-    ground: &G,
+    area: &G,
     net: u16,
     start: u32,
     entries: usize,
     front: &F,
 ) -> Result<(), SearchFault>
-    ensures { search_answered result ≡ unless (refused_by (wave_asks T.Tariff.rates (G.Ground.ground ground.now) (F.Front.view front.now) net start entries)) (Ok tt) }
+    ensures { search_answered result ≡ unless (refused_by (wave_asks T.Tariff.rates (G.Ground.meaning area.now) (F.Front.view front.now) net start entries)) (Ok tt) }
 {
-    let places = ground.shape().places();
+    let places = area.shape().places();
     if net < 1 || net > 65534 {
         return Err(SheetFault::NoNet(u32::from(net)).into());
     }
@@ -97,7 +97,7 @@ fn wave_allowed<G: Ground, T: Tariff, F: Front<T>>(
     if !front.serves(places) {
         return Err(SearchFault::NotServed(places));
     }
-    if !ground.is_open(start, net) {
+    if !area.is_open(start, net) {
         return Err(SheetFault::Closed(start).into());
     }
     Ok(())
@@ -107,24 +107,24 @@ fn wave_allowed<G: Ground, T: Tariff, F: Front<T>>(
 // many places have one. Asks whether the net is one (4), the start is in the shape (3), there is a label a place (2), the
 // front serves the tariff and the places (9), and the start is open to the net (5).
 pub fn wave<G: Ground, T: Tariff, F: Front<T>>(
-    ground: &G,
+    area: &G,
     net: u16,
     start: u32,
     labels: &mut [Option<T::Cost>],
     front: &mut F,
 ) -> Result<u32, SearchFault>
-    ensures answer { search_answered result ≡ wave_answer T.Tariff.rates (G.Ground.ground ground.now) (F.Front.view front.old) net start (length labels.old) }
+    ensures answer { search_answered result ≡ wave_answer T.Tariff.rates (G.Ground.meaning area.now) (F.Front.view front.old) net start (length labels.old) }
     ensures least { LabelsAreLeast T.Tariff.rates }
-    ensures after { WaveLeaves T.Tariff.rates (G.Ground.ground ground.now) net start labels.old labels.new front.old front.new result }
+    ensures after { WaveLeaves T.Tariff.rates (G.Ground.meaning area.now) net start labels.old labels.new front.old front.new result }
 {
     let entries = labels.len();
-    if let Err(fault) = wave_allowed::<G, T, F>(ground, net, start, entries, front) {
+    if let Err(fault) = wave_allowed::<G, T, F>(area, net, start, entries, front) {
         return Err(fault);
     }
-    let places = ground.shape().places() as usize;
+    let places = area.shape().places() as usize;
     let board = &mut labels[0..places];
     begin::<T, F>(start, board, front);
-    Ok(spread::<G, T, F>(ground, net, start, None, board, front))
+    Ok(spread::<G, T, F>(area, net, start, None, board, front))
 }
 
 // The label of a place.
@@ -137,26 +137,26 @@ fn label_at<C: Copy>(labels: &[Option<C>], place: u32) -> Option<C>
 
 // Whether a search to a goal may begin.
 fn search_allowed<G: Ground, T: Tariff, F: Front<T>>(
-    ground: &G,
+    area: &G,
     net: u16,
     start: u32,
     goal: u32,
     entries: usize,
     front: &F,
 ) -> Result<(), SearchFault>
-    ensures { search_answered result ≡ unless (refused_by (search_asks T.Tariff.rates (G.Ground.ground ground.now) (F.Front.view front.now) net start goal entries)) (Ok tt) }
+    ensures { search_answered result ≡ unless (refused_by (search_asks T.Tariff.rates (G.Ground.meaning area.now) (F.Front.view front.now) net start goal entries)) (Ok tt) }
 {
-    let places = ground.shape().places();
+    let places = area.shape().places();
     if entries < places as usize {
         return Err(SheetFault::ShortList(places).into());
     }
     if !front.serves(places) {
         return Err(SearchFault::NotServed(places));
     }
-    if !ground.is_open(start, net) {
+    if !area.is_open(start, net) {
         return Err(SheetFault::Closed(start).into());
     }
-    if !ground.is_open(goal, net) {
+    if !area.is_open(goal, net) {
         return Err(SheetFault::Closed(goal).into());
     }
     Ok(())
@@ -165,25 +165,25 @@ fn search_allowed<G: Ground, T: Tariff, F: Front<T>>(
 // Searches from the start until the goal is taken, and answers the goal's least cost. Asks whether there is a label a place
 // (2), the front serves the tariff and the places (9), start and goal are open to the net (5), and there is a legal path (10).
 pub fn search<G: Ground, T: Tariff, F: Front<T>>(
-    ground: &G,
+    area: &G,
     net: u16,
     start: u32,
     goal: u32,
     labels: &mut [Option<T::Cost>],
     front: &mut F,
 ) -> Result<T::Cost, SearchFault>
-    ensures answer { search_answered result ≡ search_answer T.Tariff.rates (G.Ground.ground ground.now) (F.Front.view front.old) net start goal (length labels.old) }
+    ensures answer { search_answered result ≡ search_answer T.Tariff.rates (G.Ground.meaning area.now) (F.Front.view front.old) net start goal (length labels.old) }
     ensures wire { WireIsWire T.Tariff.rates }
-    ensures after { SearchLeaves T.Tariff.rates (G.Ground.ground ground.now) net start goal (refused_by (search_asks T.Tariff.rates (G.Ground.ground ground.now) (F.Front.view front.old) net start goal (length labels.old))) labels.old labels.new front.old front.new result }
+    ensures after { SearchLeaves T.Tariff.rates (G.Ground.meaning area.now) net start goal (refused_by (search_asks T.Tariff.rates (G.Ground.meaning area.now) (F.Front.view front.old) net start goal (length labels.old))) labels.old labels.new front.old front.new result }
 {
     let entries = labels.len();
-    if let Err(fault) = search_allowed::<G, T, F>(ground, net, start, goal, entries, front) {
+    if let Err(fault) = search_allowed::<G, T, F>(area, net, start, goal, entries, front) {
         return Err(fault);
     }
-    let places = ground.shape().places() as usize;
+    let places = area.shape().places() as usize;
     let board = &mut labels[0..places];
     begin::<T, F>(start, board, front);
-    let _ = spread::<G, T, F>(ground, net, start, Some(goal), board, front);
+    let _ = spread::<G, T, F>(area, net, start, Some(goal), board, front);
     match label_at(board, goal) {
         Some(cost) => Ok(cost),
         None => Err(SearchFault::NoPath(goal)),

@@ -25,7 +25,7 @@ impl<'a> Drawing<'a> {
 }
 
 impl<'a> Ground for Drawing<'a> {
-    ghost ground = { λ s. drawn_ground s.shape s.cells.now };
+    ghost meaning = { λ s. drawn_ground s.shape s.cells.now };
 
     ghost sound = { λ s. drawn_sound s.shape s.cells.now };
 

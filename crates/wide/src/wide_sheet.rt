@@ -69,7 +69,7 @@ impl<'a> WideSheet<'a> {
 }
 
 impl<'a> Ground for WideSheet<'a> {
-    ghost ground = { λ s. wide_ground s.shape s.cells.now };
+    ghost meaning = { λ s. wide_ground s.shape s.cells.now };
 
     ghost sound = { λ s. wide_sound s.shape s.cells.now };
 

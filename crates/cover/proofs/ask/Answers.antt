@@ -19,13 +19,13 @@ returns-then-place-places g c =
     let size = c.places-places.ensures.is ∙ ap count_of c.shape.ensures in
     sym (asked_outside b ps c.args.net i c.loop-place.bare c.loop-place-test.true c.loop-place.invariant (omega arith))
 
-pub returns-then-not-is-open : goal.returns-then-not-is-open
-returns-then-not-is-open g c =
+pub returns-then-not-is_open : goal.returns-then-not-is_open
+returns-then-not-is_open g c =
     let b = board g c.args.sheet.now in
     let ps = c.args.path.now in
     let i = c.loop-place.place-index in
     let size = c.places-places.ensures.is ∙ ap count_of c.shape.ensures in
-    sym (asked_closed b ps c.args.net i c.loop-place.bare c.loop-place-test.true c.loop-place.invariant (omega arith) (sym c.if-not-is-open.ensures))
+    sym (asked_closed b ps c.args.net i c.loop-place.bare c.loop-place-test.true c.loop-place.invariant (omega arith) (sym c.if-not-is_open.ensures))
 
 pub loop-place-preserved : goal.loop-place-preserved
 loop-place-preserved g c =
@@ -34,8 +34,8 @@ loop-place-preserved g c =
     let i = c.loop-place.place-index in
     let bare = c.loop-place.bare in
     let size = c.places-places.ensures.is ∙ ap count_of c.shape.ensures in
-    asked_more b ps c.args.net i bare c.loop-place-test.true c.loop-place.invariant (omega arith) (sym c.if-not-is-open.ensures) c.saturating-add-bare.result
-    (c.saturating-add-bare.ensures ∙ ap (λ (k : ℕ). min (bare + k) 4294967295) c.bare_at.ensures)
+    asked_more b ps c.args.net i bare c.loop-place-test.true c.loop-place.invariant (omega arith) (sym c.if-not-is_open.ensures) c.saturating_add-bare.result
+    (c.saturating_add-bare.ensures ∙ ap (λ (k : ℕ). min (bare + k) 4294967295) c.bare_at.ensures)
 
 pub returns-then-not-spares : goal.returns-then-not-spares
 returns-then-not-spares g c =

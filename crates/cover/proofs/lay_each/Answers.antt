@@ -8,19 +8,19 @@ loop-place-init g c =
     let b = board g c.args.sheet.now in
     (laying_none b c.args.path.now c.args.net c.requires, refl)
 
-pub returns-in-err-lay : goal.returns-in-err-lay
-returns-in-err-lay g c =
+pub returns-in_err-lay : goal.returns-in_err-lay
+returns-in_err-lay g c =
     let b = board g c.args.sheet.now in
     let m = board g c.loop-place.sheet in
     let granted = laying_granted b c.args.path.now c.args.net c.requires m c.loop-place.place-index c.loop-place-test.true c.loop-place.invariant.0 in
-    err_ok _ (c.in-err-lay.ensures.answer ∙ granted)
+    err_ok _ (c.in_err-lay.ensures.answer ∙ granted)
 
 pub loop-place-preserved : goal.loop-place-preserved
 loop-place-preserved g c =
     let b = board g c.args.sheet.now in
     let m = board g c.loop-place.sheet in
     let m' = board g c.lay.new.self in
-    let laid = c.in-ok-lay.ensures in
+    let laid = c.in_ok-lay.ensures in
     (laying_more b c.args.path.now c.args.net c.requires m c.loop-place.place-index c.loop-place-test.true c.loop-place.invariant.0 m' laid.after, laid.kept ∙ c.loop-place.invariant.1)
 
 pub returns : goal.returns

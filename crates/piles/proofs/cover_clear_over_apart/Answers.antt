@@ -8,7 +8,7 @@ returns g c =
     let made = c.new-layer.ensures in
     let added = c.in-ok-add.ensures in
     record {
-      answer = apart_answer g.S.Ground.ground g.S.Sheet.metal clear_ground c.args.row _ _ _ _ _ c.args.path.now c.args.net _ made.is added.below made.none added.after added.answer c.cover-clear.ensures.answer;
+      answer = apart_answer g.S.Ground.meaning g.S.Sheet.metal clear_ground c.args.row _ _ _ _ _ c.args.path.now c.args.net _ made.is added.below made.none added.after added.answer c.cover-clear.ensures.answer;
       copper = search rules;
       kept = search rules;
     }

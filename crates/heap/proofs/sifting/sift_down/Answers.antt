@@ -7,13 +7,13 @@ use Rattle.heap.proofs.sifting.sift_down.Goals as goal
 pub loop-child-init : goal.loop-child-init
 loop-child-init g c = (c.requires, same_self (filled (layout c.args.list.now) c.args.from c.args.place) c.args.count)
 
-pub lower-child-requires : goal.lower-child-requires
-lower-child-requires g c =
+pub lower_child-requires : goal.lower_child-requires
+lower_child-requires g c =
     let xs = c.loop-child.list in
     hole_vacant (layout xs) (length xs) (length c.args.list.now) c.args.count c.loop-child.hole c.args.place c.args.cost c.loop-child.auto.list c.loop-child.invariant.0.hole
 
-pub slot-at-other-requires : goal.slot-at-other-requires
-slot-at-other-requires g c =
+pub slot_at-other-requires : goal.slot_at-other-requires
+slot_at-other-requires g c =
     let s = c.loop-child.invariant.0.hole in
     let few = s.linked.few in
     let first = s.first in
@@ -34,7 +34,7 @@ link-requires g c =
     let under = l.under in
     let f = hole_fits (layout xs) (length xs) m c.args.count i c.args.place c.args.cost len s in
     let p = hole_place (layout xs) (room m) c.args.count i c.in-Some.child c.args.place c.args.cost s (omega arith) l.most (λ e. omega arith) in
-    let e = c.slot-at-other.ensures in
+    let e = c.slot_at-other.ensures in
     record { first = f.first; small = f.small; position = f.position; place = omega arith }
 
 pub loop-child-smaller : goal.loop-child-smaller
@@ -48,8 +48,8 @@ loop-child-smaller g c =
 pub loop-child-preserved : goal.loop-child-preserved
 loop-child-preserved g c =
     down_turn g.met.T.Tariff.laws (filled (layout c.args.list.now) c.args.from c.args.place) (layout c.loop-child.list) (layout c.link.new.list)
-    (room (length c.args.list.now)) c.args.count c.loop-child.hole c.args.place c.slot-at-other.result c.args.cost
-    c.in-Some.child c.loop-child.invariant c.in-Some.ensures c.slot-at-other.ensures c.link.ensures
+    (room (length c.args.list.now)) c.args.count c.loop-child.hole c.args.place c.slot_at-other.result c.args.cost
+    c.in-Some.child c.loop-child.invariant c.in-Some.ensures c.slot_at-other.ensures c.link.ensures
 
 pub link-requires-2 : goal.link-requires-2
 link-requires-2 g c =
@@ -60,4 +60,4 @@ link-requires-2 g c =
 pub returns : goal.returns
 returns g c =
     down_done g.met.T.Tariff.laws (filled (layout c.args.list.now) c.args.from c.args.place) (layout c.loop-child.list) (layout c.link-2.new.list)
-    (room (length c.args.list.now)) c.args.count c.loop-child.hole c.args.place c.args.cost c.loop-child.invariant c.in-default.ensures c.link-2.ensures
+    (room (length c.args.list.now)) c.args.count c.loop-child.hole c.args.place c.args.cost c.loop-child.invariant c.in_default.ensures c.link-2.ensures

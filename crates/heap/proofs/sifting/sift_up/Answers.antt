@@ -7,8 +7,8 @@ use Rattle.heap.proofs.sifting.sift_up.Goals as goal
 pub loop-cost-init : goal.loop-cost-init
 loop-cost-init g c = (c.requires, same_self (filled (layout c.args.list.now) c.args.from c.args.place) c.args.count)
 
-pub is-below-parent-requires : goal.is-below-parent-requires
-is-below-parent-requires g c =
+pub is_below_parent-requires : goal.is_below_parent-requires
+is_below_parent-requires g c =
     let xs = c.loop-cost.list in
     let m = length c.args.list.now in
     let i = c.loop-cost.hole in
@@ -20,8 +20,8 @@ is-below-parent-requires g c =
       parent = λ two. let p = hole_place (layout xs) (room m) c.args.count i (i / 2) c.args.place c.args.cost s (omega arith) (omega arith) (λ e. omega arith) in omega arith;
     }
 
-pub slot-at-parent-requires : goal.slot-at-parent-requires
-slot-at-parent-requires g c =
+pub slot_at-parent-requires : goal.slot_at-parent-requires
+slot_at-parent-requires g c =
     let s = c.loop-cost.invariant.0.hole in
     let few = s.linked.few in
     let first = s.first in
@@ -40,7 +40,7 @@ link-requires g c =
     let two = (below_parent_true g.T.Tariff.rates (layout xs) i c.args.cost c.loop-cost-test.ensures).0 in
     let f = hole_fits (layout xs) (length xs) m c.args.count i c.args.place c.args.cost len s in
     let p = hole_place (layout xs) (room m) c.args.count i (i / 2) c.args.place c.args.cost s (omega arith) (omega arith) (λ e. omega arith) in
-    let e = c.slot-at-parent.ensures in
+    let e = c.slot_at-parent.ensures in
     record { first = f.first; small = f.small; position = f.position; place = omega arith }
 
 pub loop-cost-smaller : goal.loop-cost-smaller
@@ -49,8 +49,8 @@ loop-cost-smaller g c = let first = c.loop-cost.invariant.0.hole.first in omega 
 pub loop-cost-preserved : goal.loop-cost-preserved
 loop-cost-preserved g c =
     up_turn g.met.T.Tariff.laws (filled (layout c.args.list.now) c.args.from c.args.place) (layout c.loop-cost.list) (layout c.link.new.list)
-    (room (length c.args.list.now)) c.args.count c.loop-cost.hole c.args.place c.slot-at-parent.result c.args.cost
-    c.loop-cost.invariant c.loop-cost-test.ensures c.slot-at-parent.ensures c.link.ensures
+    (room (length c.args.list.now)) c.args.count c.loop-cost.hole c.args.place c.slot_at-parent.result c.args.cost
+    c.loop-cost.invariant c.loop-cost-test.ensures c.slot_at-parent.ensures c.link.ensures
 
 pub link-requires-2 : goal.link-requires-2
 link-requires-2 g c =

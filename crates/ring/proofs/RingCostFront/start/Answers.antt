@@ -14,9 +14,9 @@ join-requires g c =
     let e = c.clear.ensures.emptied in
     let i = c.if-place-self.false in
     let len = ap length c.clear.ensures.list in
-    let served = ap some_rows (sym c.max-rise-span.ensures) ∙ sym c.if-not-has-rows.ensures in
-    let rows = c.row-count.result in
-    let are : rows ≡ t.span + 1 = c.row-count.ensures ∙ ap (λ n. n + 1) c.max-rise-span.ensures in
+    let served = ap some_rows (sym c.max_rise-span.ensures) ∙ sym c.if-not-has_rows.ensures in
+    let rows = c.row_count.result in
+    let are : rows ≡ t.span + 1 = c.row_count.ensures ∙ ap (λ n. n + 1) c.max_rise-span.ensures in
     let few = few_rows t.span served in
     record {
       order = in_order r rows e (omega arith) (omega arith) t;
@@ -36,10 +36,10 @@ returns g c =
     let i = c.if-place-self.false in
     record {
       acts = record {
-        tariff = ap some_rows (sym c.max-rise-span.ensures) ∙ sym c.if-not-has-rows.ensures;
+        tariff = ap some_rows (sym c.max_rise-span.ensures) ∙ sym c.if-not-has_rows.ensures;
         inside = omega arith;
         first = here q q' p (Some c.nothing.result) e ∙ ap Some c.nothing.ensures;
-        others = λ k ne. others q q' p (Some c.nothing.result) e k ne ∙ none_waits c.clear.new.ring c.row-count.result c.clear.ensures.emptied k;
+        others = λ k ne. others q q' p (Some c.nothing.result) e k ne ∙ none_waits c.clear.new.ring c.row_count.result c.clear.ensures.emptied k;
         last = e.last ∙ c.clear.ensures.emptied.last;
         serves = record { served = e.served ∙ ap (λ k. length k - 1) c.clear.ensures.list; spans = refl };
       };

@@ -5,21 +5,21 @@ use Rattle.ring.proofs.Offering.{here, others}
 use Rattle.ring.proofs.Taking.{taken_order}
 use Rattle.ring.proofs.RingCostFront.take.Goals as goal
 
-pub returns-in-default : goal.returns-in-default
-returns-in-default g c =
+pub returns-in_default : goal.returns-in_default
+returns-in_default g c =
     let s = c.args.self.now in
     let xs = s.list.now in
     record {
       acts = record {
         none = none_waits g.T.Tariff.rates c.requires
-            c.base-row-from.result c.base-row-from.ensures c.in-default.ensures;
+            c.base_row-from.result c.base_row-from.ensures c.in_default.ensures;
         same = refl;
       };
       kept = c.requires;
     }
 
-pub waiting-at-requires : goal.waiting-at-requires
-waiting-at-requires g c =
+pub waiting_at-requires : goal.waiting_at-requires
+waiting_at-requires g c =
     let s = c.args.self.now in
     let xs = s.list.now in
     let b = c.in-Some.first in
@@ -32,7 +32,7 @@ unreachable-requires g c =
     let xs = s.list.now in
     let b = c.in-Some.first in
     first_waits g.T.Tariff.rates c.requires
-    c.base-row-from.result c.base-row-from.ensures b.row b.head c.in-Some.ensures (sym c.in-default-waiting-at.ensures)
+    c.base_row-from.result c.base_row-from.ensures b.row b.head c.in-Some.ensures (sym c.in_default-waiting_at.ensures)
 
 pub leave-requires : goal.leave-requires
 leave-requires g c =
@@ -42,7 +42,7 @@ leave-requires g c =
     record {
       order = c.requires;
       filed = first_filed g.T.Tariff.rates c.requires
-          c.base-row-from.result c.base-row-from.ensures b.row b.head c.in-Some.ensures;
+          c.base_row-from.result c.base_row-from.ensures b.row b.head c.in-Some.ensures;
     }
 
 pub returns : goal.returns
@@ -52,9 +52,9 @@ returns g c =
     let s' = c.leave.new.ring in
     let xs = s.list.now in
     let b = c.in-Some.first in
-    let x = c.in-Some-waiting-at.cost in
+    let x = c.in-Some-waiting_at.cost in
     let e = c.leave.ensures.change in
-    let w = sym c.in-Some-waiting-at.ensures in
+    let w = sym c.in-Some-waiting_at.ensures in
     let f = c.in-Some.ensures in
     let i = head_inside t c.requires b.row b.head f.head_is in
     record {
@@ -66,7 +66,7 @@ returns g c =
         last = refl;
         serves = record { served = e.served; spans = refl };
         early = first_early t c.requires
-            c.base-row-from.result c.base-row-from.ensures b.row b.head f x w g.met.T.Tariff.laws;
+            c.base_row-from.result c.base_row-from.ensures b.row b.head f x w g.met.T.Tariff.laws;
       };
-      kept = taken_order t s s' c.requires c.base-row-from.result b.row b.head c.base-row-from.ensures f x w c.leave.ensures.order e c.leave.ensures.rows;
+      kept = taken_order t s s' c.requires c.base_row-from.result b.row b.head c.base_row-from.ensures f x w c.leave.ensures.order e c.leave.ensures.rows;
     }

@@ -12,7 +12,7 @@ link-requires g c =
     record {
       place = omega arith;
       head = λ p e.
-          let b = head_inside g.T.Tariff.rates c.requires.order c.row-of-row.result p e in
+          let b = head_inside g.T.Tariff.rates c.requires.order c.row_of-row.result p e in
           omega arith;
     }
 
@@ -25,11 +25,11 @@ returns g c =
     let zs = c.link.new.list in
     let p = c.args.place in
     let x = c.args.cost in
-    let r = c.row-of-row.result in
+    let r = c.row_of-row.result in
     let m = c.enter-ring.result in
     let len : length zs ≡ length xs = search rules in
     let lh : length s.heads ≡ 32 = search rules in
-    let er = sym c.row-of-row.ensures in
+    let er = sym c.row_of-row.ensures in
     record {
       order = joined_ordered t xs s.touched s.rows s.heads s.last c.requires.order lh p x c.requires.free c.requires.near ys m c.enter-ring.ensures r er zs c.link.ensures len;
       change = record {

@@ -30,16 +30,16 @@ returns g c =
     let s = c.args.ring.now in
     let xs = s.list.now in
     let ys = c.unlink-rest.new.list in
-    let zs = c.set-cost.new.list in
+    let zs = c.set_cost.new.list in
     let p = c.args.place in
     let r = c.args.row in
     let len : length zs ≡ length xs = search rules in
     let lh : length s.heads ≡ 32 = search rules in
     record {
       order = subst (λ v. Ordered t zs s.touched s.rows (set s.heads r v) s.last) (sym c.unlink-rest.ensures.head)
-          (left_ordered t xs s.touched s.rows s.heads s.last c.requires.order lh p r c.requires.filed ys zs c.unlink-rest.ensures.records c.set-cost.ensures len);
+          (left_ordered t xs s.touched s.rows s.heads s.last c.requires.order lh p r c.requires.filed ys zs c.unlink-rest.ensures.records c.set_cost.ensures len);
       change = record {
-        waiting = left_awaits t xs s.touched s.rows s.heads s.last c.requires.order lh p r c.requires.filed ys zs c.unlink-rest.ensures.records c.set-cost.ensures;
+        waiting = left_awaits t xs s.touched s.rows s.heads s.last c.requires.order lh p r c.requires.filed ys zs c.unlink-rest.ensures.records c.set_cost.ensures;
         last = refl;
         served = ap (λ k. k - 1) len;
       };

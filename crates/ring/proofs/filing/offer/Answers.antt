@@ -27,7 +27,7 @@ returns-then-lowers g c =
       order = c.join.ensures.order;
       change = lowered t (view_of c.args.ring.now) c.args.place c.args.cost
           (view_of c.withdraw.new.ring) (view_of c.join.new.ring)
-          (ap (lower t c.args.cost) (sym c.waiting-at-old.ensures) ∙ sym c.if-lowers.ensures) c.withdraw.ensures.change c.join.ensures.change;
+          (ap (lower t c.args.cost) (sym c.waiting_at-old.ensures) ∙ sym c.if-lowers.ensures) c.withdraw.ensures.change c.join.ensures.change;
     }
 
 pub returns-else-lowers : goal.returns-else-lowers
@@ -36,5 +36,5 @@ returns-else-lowers g c =
     record {
       order = c.requires.order;
       change = unmoved t (view_of c.args.ring.now) c.args.place c.args.cost
-          (ap (lower t c.args.cost) (sym c.waiting-at-old.ensures) ∙ sym c.if-lowers.ensures);
+          (ap (lower t c.args.cost) (sym c.waiting_at-old.ensures) ∙ sym c.if-lowers.ensures);
     }

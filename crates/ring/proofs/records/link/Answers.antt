@@ -8,18 +8,18 @@ has : (o : Option ℕ) (p n : ℕ) → ((q : ℕ) → o ≡ Some q → q + 1 < n
 has None p n f l = l
 has (Some q) p n f l = f q refl
 
-pub set-back-requires : goal.set-back-requires
-set-back-requires g c =
-    let len : length c.set-next.new.list ≡ length c.args.list.now = search rules in
-    let e = c.unwrap-or-next.ensures in
+pub set_back-requires : goal.set_back-requires
+set_back-requires g c =
+    let len : length c.set_next.new.list ≡ length c.args.list.now = search rules in
+    let e = c.unwrap_or-next.ensures in
     let h = has c.args.head c.args.place (length c.args.list.now) c.requires.head c.requires.place in
     omega arith
 
 pub returns : goal.returns
 returns g c =
     let p = c.args.place in
-    let q = c.unwrap-or-next.result in
+    let q = c.unwrap_or-next.result in
     let v = unwrap_or c.args.head p in
-    let e = c.unwrap-or-next.ensures in
-    relinked (layout c.args.list.now) (layout c.set-next.new.list) (layout c.set-back.new.list)
-    p p q v q v p p c.set-next.ensures c.set-back.ensures refl e e refl
+    let e = c.unwrap_or-next.ensures in
+    relinked (layout c.args.list.now) (layout c.set_next.new.list) (layout c.set_back.new.list)
+    p p q v q v p p c.set_next.ensures c.set_back.ensures refl e e refl

@@ -16,6 +16,6 @@ returns g c =
     let back = (get_or xs (p + 1) c.index-list-place-2.result).back in
     let en = ap (λ (r : RingRecord g.row.C.Denot). r.next) a in
     let eb = ap (λ (r : RingRecord g.row.C.Denot). r.back) b in
-    let ev = c.unwrap-or-after.ensures ∙ ap (λ z. unwrap_or z back) c.next-place.ensures ∙ ap (λ z. unwrap_or (follower h p) z) eb in
-    relinked h (layout c.set-next.new.list) (layout c.set-back.new.list)
-    _ (h p).back _ _ _ (h p).next _ (h p).back c.set-next.ensures c.set-back.ensures eb ev en eb
+    let ev = c.unwrap_or-after.ensures ∙ ap (λ z. unwrap_or z back) c.next_place.ensures ∙ ap (λ z. unwrap_or (follower h p) z) eb in
+    relinked h (layout c.set_next.new.list) (layout c.set_back.new.list)
+    _ (h p).back _ _ _ (h p).next _ (h p).back c.set_next.ensures c.set_back.ensures eb ev en eb

@@ -7,7 +7,7 @@ use Rattle.trace.proofs.walk.begin.Goals as goal
 
 pub returns : goal.returns
 returns g c =
-    let m = g.G.Ground.ground c.args.ground.now in
+    let m = g.G.Ground.meaning c.args.area.now in
     let k = c.places-places.result in
     let ls = c.args.labels.now in
     let e : k ≡ count_of m.shape = c.places-places.ensures.is ∙ ap count_of c.shape-shape.ensures in

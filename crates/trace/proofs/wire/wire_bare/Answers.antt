@@ -8,7 +8,7 @@ use Rattle.trace.proofs.wire.wire_bare.Goals as goal
 
 pub returns-in-err-trace : goal.returns-in-err-trace
 returns-in-err-trace g c =
-    let m = g.S.Ground.ground c.args.sheet.now in
+    let m = g.S.Ground.meaning c.args.sheet.now in
     let b = sheet m (g.S.Sheet.metal c.args.sheet.now) in
     let ls = c.args.labels.now in
     let r = c.from-residual.result in
@@ -24,7 +24,7 @@ count-bare-requires g c = (c.in-ok-trace.ensures.1 c.args.net).few
 
 pub returns : goal.returns
 returns g c =
-    let m = g.S.Ground.ground c.args.sheet.now in
+    let m = g.S.Ground.meaning c.args.sheet.now in
     let b = sheet m (g.S.Sheet.metal c.args.sheet.now) in
     let ls = c.args.labels.now in
     let a = told g.T.Tariff.rates m c.args.net c.args.start c.args.goal ls c.in-ok-trace.trace c.in-ok-trace.ensures (bare_on b) (bare_reverse b) c.count-bare.result c.count-bare.ensures in

@@ -6,13 +6,13 @@ use Rattle.trace.proofs.wire.write_wire.Goals as goal
 
 pub write-back-requires : goal.write-back-requires
 write-back-requires g c =
-    part_size g.T.Tariff.rates (g.G.Ground.ground c.args.ground.now) c.args.net c.args.start c.args.goal c.args.labels.now c.in-ok-trace.trace c.in-ok-trace.ensures
+    part_size g.T.Tariff.rates (g.G.Ground.meaning c.args.area.now) c.args.net c.args.start c.args.goal c.args.labels.now c.in-ok-trace.trace c.in-ok-trace.ensures
     c.args.path.now c.in-ok-places.places c.in-ok-places.ensures.answer c.in-ok-has-room.ensures
 
 pub returns : goal.returns
 returns g c =
     let t = g.T.Tariff.rates in
-    let m = g.G.Ground.ground c.args.ground.now in
+    let m = g.G.Ground.meaning c.args.area.now in
     let ls = c.args.labels.now in
     let x = c.in-ok-trace.trace in
     let begun = c.in-ok-trace.ensures in
@@ -25,6 +25,6 @@ returns g c =
     record {
       answer = a;
       after = b;
-      wire = after_search g.met.T.Tariff.laws m (g.G.Ground.sound c.args.ground.now) c.args.net c.args.start c.args.goal ls
+      wire = after_search g.met.T.Tariff.laws m (g.G.Ground.sound c.args.area.now) c.args.net c.args.start c.args.goal ls
           (λ ps. (Ok n ≡ write_answer m (length ls) ps (length path)) × (c.write-back.new.path ++ post_of 0 (n - 0) path ≡ path_after m (length ls) ps path)) (a, b);
     }

@@ -27,14 +27,14 @@ pub loop-direction-preserved : goal.loop-direction-preserved
 loop-direction-preserved g c =
     elim c.match-neighbour.branch [
       | in-Some w ↦
-          subst (λ f. (g.F.Front.ordered f) × OffersAll g.T.Tariff.rates (g.G.Ground.ground c.args.ground.now) c.args.net c.args.labels.now (g.F.Front.view c.args.front.now) (g.F.Front.view f) (gather c.args.site.shape c.args.site.place (take (c.loop-direction.direction-index + 1) c.args.list.now))) (sym w.front-is) (
+          subst (λ f. (g.F.Front.ordered f) × OffersAll g.T.Tariff.rates (g.G.Ground.meaning c.args.area.now) c.args.net c.args.labels.now (g.F.Front.view c.args.front.now) (g.F.Front.view f) (gather c.args.site.shape c.args.site.place (take (c.loop-direction.direction-index + 1) c.args.list.now))) (sym w.front-is) (
             w.offer.ensures.order,
             next_some c.args.site.shape c.args.site.place c.args.list.now c.loop-direction.direction-index _ w.in-Some.to g.met.T.Tariff.laws c.loop-direction-test.true
                 (sym c.neighbour.ensures ∙ w.in-Some.is) c.loop-direction.invariant.1
-                (subst (λ k. Offers g.T.Tariff.rates (g.G.Ground.ground c.args.ground.now) c.args.net c.args.labels.now (g.F.Front.view c.loop-direction.front) (g.F.Front.view w.offer.new.front) (hop k w.in-Some.to)) w.step.ensures w.offer.ensures.offers),
+                (subst (λ k. Offers g.T.Tariff.rates (g.G.Ground.meaning c.args.area.now) c.args.net c.args.labels.now (g.F.Front.view c.loop-direction.front) (g.F.Front.view w.offer.new.front) (hop k w.in-Some.to)) w.step.ensures w.offer.ensures.offers),
           )
       | in-default w ↦
-          subst (λ f. (g.F.Front.ordered f) × OffersAll g.T.Tariff.rates (g.G.Ground.ground c.args.ground.now) c.args.net c.args.labels.now (g.F.Front.view c.args.front.now) (g.F.Front.view f) (gather c.args.site.shape c.args.site.place (take (c.loop-direction.direction-index + 1) c.args.list.now))) (sym w.front-is) (
+          subst (λ f. (g.F.Front.ordered f) × OffersAll g.T.Tariff.rates (g.G.Ground.meaning c.args.area.now) c.args.net c.args.labels.now (g.F.Front.view c.args.front.now) (g.F.Front.view f) (gather c.args.site.shape c.args.site.place (take (c.loop-direction.direction-index + 1) c.args.list.now))) (sym w.front-is) (
             c.loop-direction.invariant.0,
             next_none c.args.site.shape c.args.site.place c.args.list.now c.loop-direction.direction-index _ c.loop-direction-test.true
                 (sym c.neighbour.ensures ∙ w.in-default.is) c.loop-direction.invariant.1,
@@ -44,6 +44,6 @@ loop-direction-preserved g c =
 pub returns : goal.returns
 returns g c = record {
   order = c.loop-direction.invariant.0;
-  offers = subst (λ ds. OffersAll g.T.Tariff.rates (g.G.Ground.ground c.args.ground.now) c.args.net c.args.labels.now (g.F.Front.view c.args.front.now) (g.F.Front.view c.loop-direction.front) (gather c.args.site.shape c.args.site.place ds))
+  offers = subst (λ ds. OffersAll g.T.Tariff.rates (g.G.Ground.meaning c.args.area.now) c.args.net c.args.labels.now (g.F.Front.view c.args.front.now) (g.F.Front.view c.loop-direction.front) (gather c.args.site.shape c.args.site.place ds))
       (take_all _ _ c.loop-direction-test.false) c.loop-direction.invariant.1;
 }

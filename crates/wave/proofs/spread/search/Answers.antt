@@ -12,19 +12,19 @@ returns-in-Err g c =
     record {
       answer = unless_some _ _ _ o;
       wire = wire_is_wire g.met.T.Tariff.laws;
-      after = leaves_same g.T.Tariff.rates (g.G.Ground.ground c.args.ground.now) c.args.net c.args.start _ _ c.args.labels.now c.args.front.now o;
+      after = leaves_same g.T.Tariff.rates (g.G.Ground.meaning c.args.area.now) c.args.net c.args.start _ _ c.args.labels.now c.args.front.now o;
     }
 
 pub begin-requires : goal.begin-requires
 begin-requires g c =
-    let m = g.G.Ground.ground c.args.ground.now in
-    let (a, open-goal) = search_allowed g.T.Tariff.rates m (g.F.Front.view c.args.front.now) c.args.net c.args.start c.args.goal (length c.args.labels.now) (g.G.Ground.sound c.args.ground.now) (granted _ c.in-default.ensures) in
+    let m = g.G.Ground.meaning c.args.area.now in
+    let (a, open-goal) = search_allowed g.T.Tariff.rates m (g.F.Front.view c.args.front.now) c.args.net c.args.start c.args.goal (length c.args.labels.now) (g.G.Ground.sound c.args.area.now) (granted _ c.in-default.ensures) in
     record { place = omega (arith, a.inside, a.reached); tariff = a.tariff }
 
 pub spread-requires : goal.spread-requires
 spread-requires g c =
-    let m = g.G.Ground.ground c.args.ground.now in
-    let (a, open-goal) = search_allowed g.T.Tariff.rates m (g.F.Front.view c.args.front.now) c.args.net c.args.start c.args.goal (length c.args.labels.now) (g.G.Ground.sound c.args.ground.now) (granted _ c.in-default.ensures) in
+    let m = g.G.Ground.meaning c.args.area.now in
+    let (a, open-goal) = search_allowed g.T.Tariff.rates m (g.F.Front.view c.args.front.now) c.args.net c.args.start c.args.goal (length c.args.labels.now) (g.G.Ground.sound c.args.area.now) (granted _ c.in-default.ensures) in
     let e : c.places-places.result ≡ count_of m.shape = c.places-places.ensures.is ∙ ap count_of c.shape.ensures in
     record {
       fresh = c.begin.ensures.fresh m c.args.net a.free;
@@ -35,8 +35,8 @@ spread-requires g c =
 
 pub label-at-requires : goal.label-at-requires
 label-at-requires g c =
-    let m = g.G.Ground.ground c.args.ground.now in
-    let sound = g.G.Ground.sound c.args.ground.now in
+    let m = g.G.Ground.meaning c.args.area.now in
+    let sound = g.G.Ground.sound c.args.area.now in
     let (a, open-goal) = search_allowed g.T.Tariff.rates m (g.F.Front.view c.args.front.now) c.args.net c.args.start c.args.goal (length c.args.labels.now) sound (granted _ c.in-default.ensures) in
     let e : c.places-places.result ≡ count_of m.shape = c.places-places.ensures.is ∙ ap count_of c.shape.ensures in
     let size : length c.spread.new.labels ≡ count_of m.shape = c.spread.auto.labels ∙ front_size _ _ _ _ a.enough e c.begin.auto.labels in
@@ -44,8 +44,8 @@ label-at-requires g c =
 
 pub returns-in-Some : goal.returns-in-Some
 returns-in-Some g c =
-    let m = g.G.Ground.ground c.args.ground.now in
-    let sound = g.G.Ground.sound c.args.ground.now in
+    let m = g.G.Ground.meaning c.args.area.now in
+    let sound = g.G.Ground.sound c.args.area.now in
     let laws = g.met.T.Tariff.laws in
     let o = granted _ c.in-default.ensures in
     let (a, open-goal) = search_allowed g.T.Tariff.rates m (g.F.Front.view c.args.front.now) c.args.net c.args.start c.args.goal (length c.args.labels.now) sound o in
@@ -61,8 +61,8 @@ returns-in-Some g c =
 
 pub returns-in-None : goal.returns-in-None
 returns-in-None g c =
-    let m = g.G.Ground.ground c.args.ground.now in
-    let sound = g.G.Ground.sound c.args.ground.now in
+    let m = g.G.Ground.meaning c.args.area.now in
+    let sound = g.G.Ground.sound c.args.area.now in
     let laws = g.met.T.Tariff.laws in
     let o = granted _ c.in-default.ensures in
     let (a, open-goal) = search_allowed g.T.Tariff.rates m (g.F.Front.view c.args.front.now) c.args.net c.args.start c.args.goal (length c.args.labels.now) sound o in

@@ -11,24 +11,24 @@ take-requires g c = c.loop-found.invariant.0
 
 pub offset-bounds-labels-found : goal.offset-bounds-labels-found
 offset-bounds-labels-found g c =
-    let i = within (g.G.Ground.sound c.args.ground.now) c.loop-found.invariant.1 c.in-Some.ensures.acts in
+    let i = within (g.G.Ground.sound c.args.area.now) c.loop-found.invariant.1 c.in-Some.ensures.acts in
     let j : c.in-Some.found.place < length c.args.labels.now = omega arith in
     search rules
 
 pub bounds-labels-found : goal.bounds-labels-found
-bounds-labels-found g c = within (g.G.Ground.sound c.args.ground.now) c.loop-found.invariant.1 c.in-Some.ensures.acts
+bounds-labels-found g c = within (g.G.Ground.sound c.args.area.now) c.loop-found.invariant.1 c.in-Some.ensures.acts
 
 pub overflow-add-count : goal.overflow-add-count
 overflow-add-count g c =
-    let k = few (g.G.Ground.sound c.args.ground.now) c.loop-found.invariant.1 c.in-Some.ensures.acts in
+    let k = few (g.G.Ground.sound c.args.area.now) c.loop-found.invariant.1 c.in-Some.ensures.acts in
     record { fits = omega arith }
 
 pub offer-around-requires : goal.offer-around-requires
 offer-around-requires g c =
     let G = c.loop-found.invariant.1 in
     let T = c.in-Some.ensures.acts in
-    let e : count_of c.shape-shape.result ≡ count_of (g.G.Ground.ground c.args.ground.now).shape = ap count_of c.shape-shape.ensures in
-    let i = inside (g.G.Ground.sound c.args.ground.now) G T in
+    let e : count_of c.shape-shape.result ≡ count_of (g.G.Ground.meaning c.args.area.now).shape = ap count_of c.shape-shape.ensures in
+    let i = inside (g.G.Ground.sound c.args.area.now) G T in
     record {
       inside = omega arith;
       sized = length-set _ _ _ ∙ G.sized ∙ sym e;
@@ -38,16 +38,16 @@ offer-around-requires g c =
 
 pub loop-found-smaller : goal.loop-found-smaller
 loop-found-smaller g c =
-    let e = fell (g.G.Ground.sound c.args.ground.now) c.loop-found.invariant.1 c.in-Some.ensures.acts in omega arith
+    let e = fell (g.G.Ground.sound c.args.area.now) c.loop-found.invariant.1 c.in-Some.ensures.acts in omega arith
 
 pub loop-found-preserved : goal.loop-found-preserved
 loop-found-preserved g c = (
   c.offer-around.ensures.order,
-  onward (g.G.Ground.sound c.args.ground.now) c.loop-found.invariant.1 c.in-Some.ensures.acts g.met.T.Tariff.laws c.shape-shape.ensures c.offer-around.ensures.offers,
+  onward (g.G.Ground.sound c.args.area.now) c.loop-found.invariant.1 c.in-Some.ensures.acts g.met.T.Tariff.laws c.shape-shape.ensures c.offer-around.ensures.offers,
 )
 
 pub returns-then-meets : goal.returns-then-meets
-returns-then-meets g c = arrived (g.G.Ground.sound c.args.ground.now) c.loop-found.invariant.1 c.in-Some.ensures.acts c.args.goal g.met.T.Tariff.laws (sym c.meets.ensures ∙ c.if-meets.true)
+returns-then-meets g c = arrived (g.G.Ground.sound c.args.area.now) c.loop-found.invariant.1 c.in-Some.ensures.acts c.args.goal g.met.T.Tariff.laws (sym c.meets.ensures ∙ c.if-meets.true)
 
 pub returns : goal.returns
 returns g c = ended c.args.goal g.met.T.Tariff.laws c.loop-found.invariant.1 c.in-default.ensures.acts

@@ -7,7 +7,7 @@ use Rattle.wave.proofs.spread.spread.Given as goal
 abbrev pub invariant-loop-found : goal.invariant-loop-found
 invariant-loop-found g l =
     (g.F.Front.ordered l.front) ×
-    Going g.T.Tariff.rates (g.G.Ground.ground l.ground) l.net l.start (g.F.Front.view l.front) l.labels l.count
+    Going g.T.Tariff.rates (g.G.Ground.meaning l.area) l.net l.start (g.F.Front.view l.front) l.labels l.count
 
 abbrev pub decreases-loop-found : goal.decreases-loop-found
 decreases-loop-found g l = unlabelled l.labels

@@ -11,7 +11,7 @@ returns-in-Err g c =
 
 pub spread-requires : goal.spread-requires
 spread-requires g c =
-    let m = g.G.Ground.ground c.args.ground.now in
+    let m = g.G.Ground.meaning c.args.area.now in
     let a = wave_allowed g.T.Tariff.rates m (g.F.Front.view c.args.front.now) c.args.net c.args.start (length c.args.labels.now) (granted _ c.in-default.ensures) in
     let e : c.places-places.result ≡ count_of m.shape = c.places-places.ensures.is ∙ ap count_of c.shape.ensures in
     record {
@@ -23,8 +23,8 @@ spread-requires g c =
 
 pub returns : goal.returns
 returns g c =
-    let m = g.G.Ground.ground c.args.ground.now in
-    let sound = g.G.Ground.sound c.args.ground.now in
+    let m = g.G.Ground.meaning c.args.area.now in
+    let sound = g.G.Ground.sound c.args.area.now in
     let laws = g.met.T.Tariff.laws in
     let o = granted _ c.in-default.ensures in
     let a = wave_allowed g.T.Tariff.rates m (g.F.Front.view c.args.front.now) c.args.net c.args.start (length c.args.labels.now) o in

@@ -5,11 +5,11 @@ use Rattle.keep_out.proofs.layer.KeepOutSheet.lay.Goals as goal
 
 pub returns : goal.returns
 returns g c =
-    let b = g.S.Ground.ground c.args.self.now.below.now in
+    let b = g.S.Ground.meaning c.args.self.now.below.now in
     let m = g.S.Sheet.metal c.args.self.now.below.now in
     let t = is_apart (held_rows c.args.self.now.table) in
     record {
-      answer = narrow_lay (tested t) (test_narrows t) b m c.args.place c.args.net _ c.if-not-is-open.ensures.is c.lay.ensures.answer;
-      after = narrow_laid (tested t) (test_narrows t) b (g.S.Ground.ground c.lay.new.self) m (g.S.Sheet.metal c.lay.new.self) c.args.place c.args.net c.lay.result c.lay.ensures.after;
+      answer = narrow_lay (tested t) (test_narrows t) b m c.args.place c.args.net _ c.if-not-is_open.ensures.is c.lay.ensures.answer;
+      after = narrow_laid (tested t) (test_narrows t) b (g.S.Ground.meaning c.lay.new.self) m (g.S.Sheet.metal c.lay.new.self) c.args.place c.args.net c.lay.result c.lay.ensures.after;
       kept = search rules;
     }

@@ -11,4 +11,4 @@ returns c =
     let long : length rows ≡ 64 = omega arith in
     let first : c.min.result - 0 ≡ min count 64 = omega arith in
     let same = ap (λ (k : ℕ). take k rows) first ∙ take_most rows count 64 (omega arith) in
-    c.any-has.ensures ∙ ap (λ (xs : List Row). kept_out xs c.args.at) same
+    c.any_has.ensures ∙ ap (λ (xs : List Row). kept_out xs c.args.at) same

@@ -12,4 +12,4 @@ returns c =
     let p = c.args.place in
     let l : p < served s xs = omega (arith, c.limit.ensures) in
     let z : (wide_metal s xs).copper p ≡ 0 = (copper_told (wide_sheet s xs) p c.in-Some.here c.in-Some.ensures.is).1 ∙ c.if-here-ne0.false in
-    record { answer = wide_bars s xs p l z; after = wide_wrote s xs p 65535 l; kept = wide_kept s xs p 65535 l c.args.self.now.cells.name; list = refl }
+    record { answer = wide_bars s xs p l z; after = wide_wrote s xs p 65535 l; kept = wide_kept s xs p 65535 l c.args.self.now.cells.ghost_name; list = refl }

@@ -11,11 +11,11 @@ returns c =
     let s = c.args.self.now.shape in
     let xs = c.args.self.now.cells.now in
     let p = c.args.place in
-    let k : is_net ((wide_metal s xs).copper p) ≡ true = ap is_net (copper_told (wide_sheet s xs) p c.in-Some.here c.in-Some.ensures.is).1 ∙ sym c.if-not-is-net.ensures in
+    let k : is_net ((wide_metal s xs).copper p) ≡ true = ap is_net (copper_told (wide_sheet s xs) p c.in-Some.here c.in-Some.ensures.is).1 ∙ sym c.if-not-is_net.ensures in
     let l = copper_served s xs p (λ e. grind (arith, nat_tests)) in
     record {
       answer = wide_lifts s xs p k;
       after = (wide_wrote s xs p 0 l, λ n. wide_stays s xs p 0 l n (inl refl));
-      kept = wide_kept s xs p 0 l c.args.self.now.cells.name;
+      kept = wide_kept s xs p 0 l c.args.self.now.cells.ghost_name;
       list = refl;
     }

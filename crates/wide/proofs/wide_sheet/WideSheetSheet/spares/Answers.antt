@@ -19,7 +19,7 @@ loop-place-preserved c =
     let s = c.args.self.now.shape in
     let xs = c.args.self.now.cells.now in
     let l : c.loop-place.place < served s xs = omega (arith, c.limit-place-end.ensures) in
-    counted_more s xs c.args.needed c.loop-place.missing c.loop-place.place c.still-missing-missing.result l c.if-missing-eq0.false c.still-missing-missing.ensures c.loop-place.invariant
+    counted_more s xs c.args.needed c.loop-place.missing c.loop-place.place c.still_missing-missing.result l c.if-missing-eq0.false c.still_missing-missing.ensures c.loop-place.invariant
 
 pub returns : goal.returns
 returns c =

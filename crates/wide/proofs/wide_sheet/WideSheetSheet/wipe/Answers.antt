@@ -9,7 +9,7 @@ pub returns : goal.returns
 returns c =
     let s = c.args.self.now.shape in
     let xs = c.args.self.now.cells.now in
-    let loan = c.args.self.now.cells.name in
+    let loan = c.args.self.now.cells.ghost_name in
     let left : c.zero.new.cells ≡ zeroed (served s xs) xs = c.zero.ensures ∙ ap (λ (n : ℕ). zeroed n xs) c.limit-count.ensures in
     record {
       after = subst (λ (ys : List ℕ). Wiped (wide_sheet s xs) (wide_sheet s ys)) (sym left) (wide_wiped s xs);
