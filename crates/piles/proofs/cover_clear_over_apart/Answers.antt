@@ -6,9 +6,9 @@ use Rattle.piles.proofs.cover_clear_over_apart.Goals as goal
 pub returns : goal.returns
 returns g c =
     let made = c.new-layer.ensures in
-    let added = c.in-ok-add.ensures in
+    let added = c.in_ok-add.ensures in
     record {
-      answer = apart_answer g.S.Ground.meaning g.S.Sheet.metal clear_ground c.args.row _ _ _ _ _ c.args.path.now c.args.net _ made.is added.below made.none added.after added.answer c.cover-clear.ensures.answer;
+      answer = apart_answer g.S.Ground.meaning g.S.Sheet.metal clear_ground c.args.row _ _ _ _ _ c.args.path.now c.args.net _ made.is added.below made.none added.after added.answer c.cover_clear.ensures.answer;
       copper = search rules;
       kept = search rules;
     }

@@ -6,7 +6,7 @@ use Rattle.route.specs.Hops.{gather, hop}
 use Rattle.wave.specs.Offers.{Offers, OffersAll}
 use Rattle.wave.proofs.Offering.{offers_none, next_some, next_none}
 use Rattle.wave.proofs.offer.offer_all.Goals as goal
-use Rattle.wave.proofs.offer.offer_all.Goals.{in-Some, in-default}
+use Rattle.wave.proofs.offer.offer_all.Goals.{in-Some, in_default}
 
 pub loop-direction-init : goal.loop-direction-init
 unfolding gather
@@ -33,11 +33,11 @@ loop-direction-preserved g c =
                 (sym c.neighbour.ensures ∙ w.in-Some.is) c.loop-direction.invariant.1
                 (subst (λ k. Offers g.T.Tariff.rates (g.G.Ground.meaning c.args.area.now) c.args.net c.args.labels.now (g.F.Front.view c.loop-direction.front) (g.F.Front.view w.offer.new.front) (hop k w.in-Some.to)) w.step.ensures w.offer.ensures.offers),
           )
-      | in-default w ↦
+      | in_default w ↦
           subst (λ f. (g.F.Front.ordered f) × OffersAll g.T.Tariff.rates (g.G.Ground.meaning c.args.area.now) c.args.net c.args.labels.now (g.F.Front.view c.args.front.now) (g.F.Front.view f) (gather c.args.site.shape c.args.site.place (take (c.loop-direction.direction-index + 1) c.args.list.now))) (sym w.front-is) (
             c.loop-direction.invariant.0,
             next_none c.args.site.shape c.args.site.place c.args.list.now c.loop-direction.direction-index _ c.loop-direction-test.true
-                (sym c.neighbour.ensures ∙ w.in-default.is) c.loop-direction.invariant.1,
+                (sym c.neighbour.ensures ∙ w.in_default.is) c.loop-direction.invariant.1,
           )
     ]
 

@@ -18,13 +18,13 @@ returns-in-Err g c =
 pub begin-requires : goal.begin-requires
 begin-requires g c =
     let m = g.G.Ground.meaning c.args.area.now in
-    let (a, open-goal) = search_allowed g.T.Tariff.rates m (g.F.Front.view c.args.front.now) c.args.net c.args.start c.args.goal (length c.args.labels.now) (g.G.Ground.sound c.args.area.now) (granted _ c.in-default.ensures) in
+    let (a, open-goal) = search_allowed g.T.Tariff.rates m (g.F.Front.view c.args.front.now) c.args.net c.args.start c.args.goal (length c.args.labels.now) (g.G.Ground.sound c.args.area.now) (granted _ c.in_default.ensures) in
     record { place = omega (arith, a.inside, a.reached); tariff = a.tariff }
 
 pub spread-requires : goal.spread-requires
 spread-requires g c =
     let m = g.G.Ground.meaning c.args.area.now in
-    let (a, open-goal) = search_allowed g.T.Tariff.rates m (g.F.Front.view c.args.front.now) c.args.net c.args.start c.args.goal (length c.args.labels.now) (g.G.Ground.sound c.args.area.now) (granted _ c.in-default.ensures) in
+    let (a, open-goal) = search_allowed g.T.Tariff.rates m (g.F.Front.view c.args.front.now) c.args.net c.args.start c.args.goal (length c.args.labels.now) (g.G.Ground.sound c.args.area.now) (granted _ c.in_default.ensures) in
     let e : c.places-places.result ≡ count_of m.shape = c.places-places.ensures.is ∙ ap count_of c.shape.ensures in
     record {
       fresh = c.begin.ensures.fresh m c.args.net a.free;
@@ -33,11 +33,11 @@ spread-requires g c =
       order = c.begin.ensures.order;
     }
 
-pub label-at-requires : goal.label-at-requires
-label-at-requires g c =
+pub label_at-requires : goal.label_at-requires
+label_at-requires g c =
     let m = g.G.Ground.meaning c.args.area.now in
     let sound = g.G.Ground.sound c.args.area.now in
-    let (a, open-goal) = search_allowed g.T.Tariff.rates m (g.F.Front.view c.args.front.now) c.args.net c.args.start c.args.goal (length c.args.labels.now) sound (granted _ c.in-default.ensures) in
+    let (a, open-goal) = search_allowed g.T.Tariff.rates m (g.F.Front.view c.args.front.now) c.args.net c.args.start c.args.goal (length c.args.labels.now) sound (granted _ c.in_default.ensures) in
     let e : c.places-places.result ≡ count_of m.shape = c.places-places.ensures.is ∙ ap count_of c.shape.ensures in
     let size : length c.spread.new.labels ≡ count_of m.shape = c.spread.auto.labels ∙ front_size _ _ _ _ a.enough e c.begin.auto.labels in
     omega (arith, sound.inside c.args.goal c.args.net open-goal)
@@ -47,7 +47,7 @@ returns-in-Some g c =
     let m = g.G.Ground.meaning c.args.area.now in
     let sound = g.G.Ground.sound c.args.area.now in
     let laws = g.met.T.Tariff.laws in
-    let o = granted _ c.in-default.ensures in
+    let o = granted _ c.in_default.ensures in
     let (a, open-goal) = search_allowed g.T.Tariff.rates m (g.F.Front.view c.args.front.now) c.args.net c.args.start c.args.goal (length c.args.labels.now) sound o in
     let e : c.places-places.result ≡ count_of m.shape = c.places-places.ensures.is ∙ ap count_of c.shape.ensures in
     let size : length c.spread.new.labels ≡ count_of m.shape = c.spread.auto.labels ∙ front_size _ _ _ _ a.enough e c.begin.auto.labels in
@@ -64,7 +64,7 @@ returns-in-None g c =
     let m = g.G.Ground.meaning c.args.area.now in
     let sound = g.G.Ground.sound c.args.area.now in
     let laws = g.met.T.Tariff.laws in
-    let o = granted _ c.in-default.ensures in
+    let o = granted _ c.in_default.ensures in
     let (a, open-goal) = search_allowed g.T.Tariff.rates m (g.F.Front.view c.args.front.now) c.args.net c.args.start c.args.goal (length c.args.labels.now) sound o in
     let e : c.places-places.result ≡ count_of m.shape = c.places-places.ensures.is ∙ ap count_of c.shape.ensures in
     let size : length c.spread.new.labels ≡ count_of m.shape = c.spread.auto.labels ∙ front_size _ _ _ _ a.enough e c.begin.auto.labels in

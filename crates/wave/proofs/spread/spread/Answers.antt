@@ -9,8 +9,8 @@ loop-found-init g c = (c.requires.order, begun _ _ g.met.T.Tariff.laws c.require
 pub take-requires : goal.take-requires
 take-requires g c = c.loop-found.invariant.0
 
-pub offset-bounds-labels-found : goal.offset-bounds-labels-found
-offset-bounds-labels-found g c =
+pub offset_bounds-labels-found : goal.offset_bounds-labels-found
+offset_bounds-labels-found g c =
     let i = within (g.G.Ground.sound c.args.area.now) c.loop-found.invariant.1 c.in-Some.ensures.acts in
     let j : c.in-Some.found.place < length c.args.labels.now = omega arith in
     search rules
@@ -18,13 +18,13 @@ offset-bounds-labels-found g c =
 pub bounds-labels-found : goal.bounds-labels-found
 bounds-labels-found g c = within (g.G.Ground.sound c.args.area.now) c.loop-found.invariant.1 c.in-Some.ensures.acts
 
-pub overflow-add-count : goal.overflow-add-count
-overflow-add-count g c =
+pub overflow_add-count : goal.overflow_add-count
+overflow_add-count g c =
     let k = few (g.G.Ground.sound c.args.area.now) c.loop-found.invariant.1 c.in-Some.ensures.acts in
     record { fits = omega arith }
 
-pub offer-around-requires : goal.offer-around-requires
-offer-around-requires g c =
+pub offer_around-requires : goal.offer_around-requires
+offer_around-requires g c =
     let G = c.loop-found.invariant.1 in
     let T = c.in-Some.ensures.acts in
     let e : count_of c.shape-shape.result ≡ count_of (g.G.Ground.meaning c.args.area.now).shape = ap count_of c.shape-shape.ensures in
@@ -42,12 +42,12 @@ loop-found-smaller g c =
 
 pub loop-found-preserved : goal.loop-found-preserved
 loop-found-preserved g c = (
-  c.offer-around.ensures.order,
-  onward (g.G.Ground.sound c.args.area.now) c.loop-found.invariant.1 c.in-Some.ensures.acts g.met.T.Tariff.laws c.shape-shape.ensures c.offer-around.ensures.offers,
+  c.offer_around.ensures.order,
+  onward (g.G.Ground.sound c.args.area.now) c.loop-found.invariant.1 c.in-Some.ensures.acts g.met.T.Tariff.laws c.shape-shape.ensures c.offer_around.ensures.offers,
 )
 
 pub returns-then-meets : goal.returns-then-meets
 returns-then-meets g c = arrived (g.G.Ground.sound c.args.area.now) c.loop-found.invariant.1 c.in-Some.ensures.acts c.args.goal g.met.T.Tariff.laws (sym c.meets.ensures ∙ c.if-meets.true)
 
 pub returns : goal.returns
-returns g c = ended c.args.goal g.met.T.Tariff.laws c.loop-found.invariant.1 c.in-default.ensures.acts
+returns g c = ended c.args.goal g.met.T.Tariff.laws c.loop-found.invariant.1 c.in_default.ensures.acts

@@ -12,7 +12,7 @@ returns-in-Err g c =
 pub spread-requires : goal.spread-requires
 spread-requires g c =
     let m = g.G.Ground.meaning c.args.area.now in
-    let a = wave_allowed g.T.Tariff.rates m (g.F.Front.view c.args.front.now) c.args.net c.args.start (length c.args.labels.now) (granted _ c.in-default.ensures) in
+    let a = wave_allowed g.T.Tariff.rates m (g.F.Front.view c.args.front.now) c.args.net c.args.start (length c.args.labels.now) (granted _ c.in_default.ensures) in
     let e : c.places-places.result ≡ count_of m.shape = c.places-places.ensures.is ∙ ap count_of c.shape.ensures in
     record {
       fresh = c.begin.ensures.fresh m c.args.net a.free;
@@ -26,7 +26,7 @@ returns g c =
     let m = g.G.Ground.meaning c.args.area.now in
     let sound = g.G.Ground.sound c.args.area.now in
     let laws = g.met.T.Tariff.laws in
-    let o = granted _ c.in-default.ensures in
+    let o = granted _ c.in_default.ensures in
     let a = wave_allowed g.T.Tariff.rates m (g.F.Front.view c.args.front.now) c.args.net c.args.start (length c.args.labels.now) o in
     let e : c.places-places.result ≡ count_of m.shape = c.places-places.ensures.is ∙ ap count_of c.shape.ensures in
     let size : length c.spread.new.labels ≡ count_of m.shape = c.spread.auto.labels ∙ front_size _ _ _ _ a.enough e c.begin.auto.labels in
