@@ -1,5 +1,5 @@
 -- The loops over the offsets ask of exactly the place and its neighbours around it.
-use Rattle.std.proofs.Common.{◌≡◌, ℕ, zero, suc, ◌<◌, Bool, true, false, ◌&&◌, ltb, ◌⊎◌, Some, None, Option, sym, refl, ap, ◌∙◌, subst, inl, inr, ⊎_elim, lit<}
+use Rattle.std.proofs.Common.{◌≡◌, ℕ, zero, suc, ◌<◌, Bool, true, false, ltb, ◌⊎◌, Some, None, sym, refl, ap, ◌∙◌, subst, inl, inr, ⊎_elim, lit<}
 use Rattle.std.proofs.lemmas.Bool.{and_parts, and_from, lt-ltb, cond-true, cases_Bool, both_ways}
 use Rattle.grid.specs.declared.shape.Shape.{Shape}
 use Rattle.grid.specs.declared.shape.Coordinates.{Coordinates}
@@ -8,7 +8,7 @@ use Rattle.grid.specs.declared.step.Direction.TheVariants.{West, East, North, So
 use Rattle.grid.specs.declared.site.Site.{Site}
 use Rattle.grid.specs.Places.{count_of, coordinates_of}
 use Rattle.grid.specs.Sites.{Sited}
-use Rattle.grid.specs.Steps.{Way, way, kind, beyond, neighbour_of, Among}
+use Rattle.grid.specs.Steps.{Way, way, kind, beyond, neighbour_of}
 use Rattle.grid.proofs.Numbering.{number_again}
 use Rattle.grid.proofs.Striding.{site_below}
 use Rattle.model.specs.Sheets.{Ground}

@@ -1,5 +1,5 @@
 -- The order of costs that a tariff's laws give.
-use Rattle.std.proofs.Common.{◌≡◌, Bool, true, false, ⊎_elim}
+use Rattle.std.proofs.Common.{◌≡◌, true, false, ⊎_elim}
 use Rattle.std.proofs.lemmas.Bool.{cases_Bool}
 use Rattle.tariff.specs.Rates.{Rates, Laws}
 

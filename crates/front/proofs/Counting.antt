@@ -1,9 +1,7 @@
 -- How many places wait after each call of a front.
-use Rattle.std.proofs.Common.{◌≡◌, ℕ, zero, suc, ◌+◌, ◌<◌, ◌≤◌, Some, None, Option, sym, refl, ap, ◌∙◌, ⊎_elim, arith}
+use Rattle.std.proofs.Common.{◌≡◌, ℕ, zero, suc, ◌+◌, ◌<◌, None, Option, sym, refl, ap, ◌∙◌, ⊎_elim, arith}
 use Rattle.std.proofs.lemmas.Bool.{cases_eq}
-use Rattle.grid.specs.declared.step.Step.{Step}
-use Rattle.tariff.specs.Rates.{Rates}
-use Rattle.front.specs.Queue.{Queue, Started, Offered, Removed, Empty, one_if, waiters, waiting_count}
+use Rattle.front.specs.Queue.{Queue, one_if, waiters, waiting_count}
 use Rattle.front.specs.Counts.{CountsFollow}
 
 module _ {C : Type 0} where

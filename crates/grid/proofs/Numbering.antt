@@ -1,11 +1,11 @@
 -- The numbering of places is one_to_one, and how large the numbers are.
-use Rattle.std.proofs.Common.{◌≡◌, ℕ, ◌+◌, ◌*◌, ◌/◌, ◌%◌, ◌<◌, ◌≤◌, Bool, true, false, ◌&&◌, ltb, Some, None, Option, sym, ap, ◌∙◌, subst, ⊎_elim, arith}
+use Rattle.std.proofs.Common.{◌≡◌, ℕ, ◌+◌, ◌*◌, ◌/◌, ◌%◌, ◌<◌, ◌≤◌, true, ltb, Some, None, sym, ap, ◌∙◌, subst, ⊎_elim, arith}
 use lib.Arith.{digits_lt}
 use Rattle.std.proofs.lemmas.Nat.{mul-le, div-add-mod', div_below, mod_below, div-mul-add, mod-mul-add}
 use Rattle.std.proofs.lemmas.Bool.{and_parts, ltb-true, lt-ltb, le-ltb, cases_lt, cond-true, cond-false}
 use Rattle.grid.specs.declared.shape.Shape.{Shape}
 use Rattle.grid.specs.declared.shape.Coordinates.{Coordinates}
-use Rattle.grid.specs.Places.{count_of, coordinates, Inside, is_inside, number_of, column_of, row_of, layer_of, coordinates_of, coordinates_answer, OneToOne}
+use Rattle.grid.specs.Places.{count_of, Inside, is_inside, number_of, column_of, row_of, layer_of, coordinates_of, coordinates_answer, OneToOne}
 
 -- what is there is not absent
 pub some_none : {C : Type 0} {A : Type 0} {c : C} → Some c ≡ None → A

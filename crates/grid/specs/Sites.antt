@@ -1,7 +1,6 @@
 -- What the question for a place with its coordinates answers.
 use Rattle.std.specs.Prelude.{◌≡◌, ℕ, ◌≤◌, Some, None, Option}
 use Rattle.grid.specs.declared.shape.Shape.{Shape}
-use Rattle.grid.specs.declared.shape.Coordinates.{Coordinates}
 use Rattle.grid.specs.declared.site.Site.{Site}
 use Rattle.grid.specs.Places.{count_of, coordinates_of}
 

@@ -1,5 +1,5 @@
 -- When a call is granted, at any sheet.
-use Rattle.std.proofs.Common.{◌≡◌, ℕ, ◌<◌, ◌≤◌, Bool, true, cond, eqb, ltb, leb, Some, None, Ok, ◌∙◌, ⊎_elim}
+use Rattle.std.proofs.Common.{◌≡◌, ℕ, ◌<◌, ◌≤◌, true, ltb, Some, None, Ok, ◌∙◌, ⊎_elim}
 use Rattle.std.proofs.lemmas.Bool.{lt-ltb, le-ltb, le-leb, eq-eqb, cases_lt, cond-true, cond-false}
 use Rattle.grid.proofs.Numbering.{some_none}
 use Rattle.model.specs.Sheets.{Sheet, places, spare, is_net, bare_at, copper_answer, lay_answer, lift_answer, bar_answer}

@@ -1,12 +1,11 @@
 -- Clearance opens less than the ground below, and exactly the places that are clear all around.
-use Rattle.std.proofs.Common.{◌≡◌, ℕ, ◌<◌, Bool, true, false, ◌&&◌, ◌⊎◌, ◌↔◌, List, [], ◌∷◌, Some, None, Option, sym, refl, ap, ◌∙◌, subst, inl, inr, ⊎_elim}
+use Rattle.std.proofs.Common.{◌≡◌, ℕ, Bool, true, ◌↔◌, List, [], ◌∷◌, Some, None, Option, sym, refl, ◌∙◌, subst, inl, inr, ⊎_elim}
 use Rattle.std.proofs.lemmas.Bool.{and_parts, and_from}
 use Rattle.grid.specs.declared.shape.Shape.{Shape}
 use Rattle.grid.specs.declared.step.Step.{Step}
 use Rattle.grid.specs.declared.step.Step.TheVariants.{Straight, Diagonal, Via}
 use Rattle.grid.specs.declared.step.Direction.{Direction}
 use Rattle.grid.specs.declared.step.Direction.TheVariants.{West, East, North, South, NorthWest, NorthEast, SouthWest, SouthEast, Up, Down}
-use Rattle.grid.specs.Places.{count_of}
 use Rattle.grid.specs.Steps.{Joins, kind, neighbour_of, Among}
 use Rattle.grid.proofs.Joining.{joined}
 use Rattle.model.specs.Sheets.{Ground, Sound}

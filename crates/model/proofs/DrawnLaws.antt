@@ -1,5 +1,5 @@
 -- What a drawn ground keeps.
-use Rattle.std.proofs.Common.{◌≡◌, ℕ, List, arith}
+use Rattle.std.proofs.Common.{ℕ, List, arith}
 use Rattle.std.proofs.lemmas.Bool.Decides.{nat_tests}
 use Rattle.grid.specs.declared.shape.Shape.{Shape}
 use Rattle.model.specs.Sheets.{Sound}

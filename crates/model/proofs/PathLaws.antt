@@ -1,14 +1,14 @@
 -- A path that is asked and then laid place by place.
 use Rattle.std.proofs.Common.{◌≡◌, ℕ, zero, suc, ◌+◌, ◌-◌, ◌<◌, ◌≤◌, min, Bool, true, false, cond, ◌||◌, eqb, ltb, leb, ◌⊎◌, ◌↔◌, List, [], ◌∷◌, ◌++◌, length, get_or, take, drop, Ok, Err, Result, sym, refl, ap, ◌∙◌, subst, inl, inr, ⊎_elim, not-suc-le-zero, arith}
 use Rattle.std.proofs.lemmas.List.{take_more, take_all, at_drop_more, at_drop_all}
-use Rattle.std.proofs.lemmas.Bool.{cases_eq, cases_lt, cases_Bool, lt-ltb, le-ltb, le-leb, lt-leb, eq-eqb, ne_eqb, cond-true, cond-false, cond_both, or_left, or_right, or_cases, eqb-true, ltb-true, leb-true, both_ways, true≢false}
+use Rattle.std.proofs.lemmas.Bool.{cases_lt, cases_Bool, lt-ltb, le-ltb, le-leb, eq-eqb, cond-true, cond-false, cond_both, or_left, or_right, or_cases, eqb-true, ltb-true, leb-true, true≢false}
 use Rattle.std.proofs.lemmas.Bool.Decides.{nat_tests}
 use Rattle.grid.proofs.Numbering.{count_most}
 use Rattle.grid.specs.declared.fault.SheetFault.{SheetFault}
 use Rattle.grid.specs.Faults.{Refusal, refusal, sheet_refusal}
 use Rattle.grid.specs.Places.{count_of}
-use Rattle.model.specs.Sheets.{Sheet, Sound, Wrote, Laid, StaysOpen, places, spare, ask, is_net, bare_at, put, tally, lay_answer, answered}
-use Rattle.model.specs.Paths.{on, Distinct, bare_entries, bare_on, spare_answer, along, cover_answer, Coverable, CoverIsExact, Covered, Covers}
+use Rattle.model.specs.Sheets.{Sheet, Sound, Laid, places, spare, ask, is_net, bare_at, put, tally, lay_answer, answered}
+use Rattle.model.specs.Paths.{on, Distinct, bare_entries, bare_on, spare_answer, along, cover_answer, Coverable, CoverIsExact, Covered}
 use Rattle.model.proofs.Calls.{lay_ok}
 use Rattle.model.proofs.Tallies.{tally_lay, tally_most, tally_same}
 

@@ -1,12 +1,12 @@
 -- What a wide sheet keeps, and what a write to its list does.
-use Rattle.std.proofs.Common.{◌≡◌, ℕ, ◌+◌, ◌-◌, ◌<◌, ◌≤◌, min, Bool, true, false, cond, ◌&&◌, ◌||◌, eqb, ltb, leb, ◌⊎◌, List, [], ◌∷◌, ◌++◌, length, get_or, drop, set, replicate, Ok, sym, refl, ap, ◌∙◌, inl, inr, ⊎_elim, arith, length-set}
+use Rattle.std.proofs.Common.{◌≡◌, ℕ, ◌+◌, ◌-◌, ◌<◌, ◌≤◌, min, true, cond, eqb, ltb, leb, ◌⊎◌, List, [], ◌∷◌, length, get_or, drop, set, replicate, Ok, sym, refl, ap, ◌∙◌, ⊎_elim, arith, length-set}
 use Rattle.std.proofs.lemmas.List.{get_or-set_same, get_or-set_other, drop-set-lt, drop_at, length-append, length-replicate, length-drop, get_or_append_left, get_or-append_right, get_or-replicate, get_or-drop, get_or_past, ext_get_or}
 use Rattle.std.proofs.lemmas.Bool.{cases_eq, cases_lt, lt-ltb, le-ltb, le-leb, cond-true, cond-false, cases_cond, eq-eqb, ne_eqb, lt-leb}
 use Rattle.std.proofs.lemmas.Bool.Decides.{nat_tests}
 use Rattle.grid.specs.declared.shape.Shape.{Shape}
 use Rattle.grid.specs.Places.{count_of}
 use Rattle.model.specs.Entries.{served}
-use Rattle.model.specs.Sheets.{Sound, Tied, Wrote, StaysOpen, is_net, put, tally, spare, bare_at, Wiped, lay_answer, lift_answer, bar_answer, Held}
+use Rattle.model.specs.Sheets.{Sound, Tied, Wrote, StaysOpen, is_net, tally, spare, bare_at, Wiped, lay_answer, lift_answer, bar_answer, Held}
 use Rattle.model.specs.Wide.{wide_ground, wide_metal, wide_sheet, wide_rest, wide_held, zeroed, Made, Told}
 use Rattle.model.proofs.Calls.{lay_ok, lift_ok, bar_ok}
 use Rattle.model.proofs.Tallies.{one, bare_or_one, tally_none, tally_more, tally_rise, tally_most, tally_all_bare, tally_below}

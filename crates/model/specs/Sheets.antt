@@ -1,5 +1,5 @@
 -- What grounds and sheets mean, and what each call answers and leaves.
-use Rattle.std.specs.Prelude.{◌≡◌, ℕ, zero, suc, ◌+◌, ◌-◌, ◌<◌, ◌≤◌, Bool, true, false, cond, ◌&&◌, ◌⊎◌, List, Some, None, Ok, Err, Option, Result, ◌==◌, nat_le, nat_lt}
+use Rattle.std.specs.Prelude.{◌≡◌, ℕ, zero, suc, ◌+◌, ◌-◌, ◌<◌, ◌≤◌, Bool, true, cond, ◌&&◌, ◌⊎◌, List, Some, None, Ok, Err, Option, Result, ◌==◌, nat_le, nat_lt}
 use Rattle.grid.specs.declared.shape.Shape.{Shape}
 use Rattle.grid.specs.declared.fault.SheetFault.{SheetFault}
 use Rattle.grid.specs.Faults.{Refusal, refusal, sheet_refusal}

@@ -1,15 +1,13 @@
 -- Paths as lists of places are paths as hops.
-use Rattle.std.proofs.Common.{◌≡◌, ℕ, suc, ◌+◌, ◌<◌, ◌≤◌, Bool, true, false, ◌⊎◌, ◌↔◌, List, [], ◌∷◌, ◌++◌, reverse, length, Some, None, Option, sym, refl, ap, ◌∙◌, subst, inl, inr, arith}
+use Rattle.std.proofs.Common.{◌≡◌, ℕ, ◌+◌, ◌≤◌, Bool, true, List, [], ◌∷◌, reverse, length, Some, sym, refl, ap, ◌∙◌, subst, arith}
 use mathlib.Core.List.{reverse_aux, reverse-reverse, reverse_aux-reverse_aux-nil}
 use Rattle.grid.specs.declared.shape.Shape.{Shape}
 use Rattle.grid.specs.declared.step.Step.{Step}
-use Rattle.grid.specs.Places.{count_of}
-use Rattle.grid.specs.Steps.{Joins}
 use Rattle.grid.proofs.Joining.{joins_back, one_kind}
 use Rattle.model.specs.Sheets.{Ground, Sound}
 use Rattle.pricing.specs.Prices.{Walk, Costs}
 use Rattle.tariff.specs.Rates.{Rates, charge, AllHad}
-use Rattle.route.specs.Hops.{Hop, hop, around}
+use Rattle.route.specs.Hops.{Hop, hop}
 use Rattle.route.specs.Search.{Maze, Legal, Route, Least, cost, end, steps}
 use Rattle.route.specs.Wire.{visited}
 use Rattle.route.specs.Paths.{AllOpen, AllIn, last, LegalPath, LeastCost, maze}

@@ -1,10 +1,9 @@
 -- The computed labels are least costs, and the wire traced over them is the wire.
-use Rattle.std.proofs.Common.{◌≡◌, ℕ, zero, suc, ◌<◌, ◌≤◌, Bool, true, false, cond, not, ◌&&◌, eqb, ◌⊎◌, ◌↔◌, List, [], ◌∷◌, ◌++◌, reverse, length, get_or, Some, None, Option, sym, refl, ap, ◌∙◌, subst, inl, inr, ⊎_elim, arith}
+use Rattle.std.proofs.Common.{◌≡◌, ℕ, zero, suc, ◌≤◌, Bool, true, false, cond, not, eqb, ◌⊎◌, ◌↔◌, List, [], ◌∷◌, ◌++◌, reverse, length, Some, None, Option, sym, refl, ap, ◌∙◌, subst, inl, inr, arith}
 use mathlib.Core.Path.{fun_ext}
 use mathlib.Core.List.{reverse_aux, reverse-reverse}
-use Rattle.std.proofs.lemmas.Bool.{and_parts, not-true, cases_Bool, both_ways, cond-true, cond-false, eq-eqb, ne_eqb}
+use Rattle.std.proofs.lemmas.Bool.{and_parts, not-true, both_ways, cond-true, cond-false, eq-eqb, ne_eqb}
 use Rattle.grid.specs.declared.shape.Shape.{Shape}
-use Rattle.grid.specs.declared.step.Step.{Step}
 use Rattle.grid.specs.declared.step.Direction.{Direction}
 use Rattle.grid.specs.Places.{count_of}
 use Rattle.grid.specs.Steps.{kind, order, neighbour_of, Among as Listed}
@@ -12,13 +11,12 @@ use Rattle.grid.proofs.Numbering.{count_most}
 use Rattle.model.specs.Sheets.{Ground, Sound}
 use Rattle.tariff.specs.Rates.{Rates, Laws, then}
 use Rattle.route.specs.Lawful.{Lawful}
-use Rattle.route.specs.Hops.{Hop, hop, put_in, gather, around}
+use Rattle.route.specs.Hops.{Hop, hop, put_in, gather}
 use Rattle.route.specs.Listed.{On, NoneTwice}
-use Rattle.route.specs.Search.{Maze, Route, Least, cost, onward, least}
-use Rattle.route.specs.Sweep.{swept}
+use Rattle.route.specs.Search.{Maze, onward, least}
 use Rattle.route.specs.Wire.{visited, trace, trace_back, on_back, back, is_cost, first, accounts, Numbered, Known, Goes, here, goes}
-use Rattle.route.specs.Paths.{LegalPath, LeastCost, maze, labels, label_of, wire_over, wire, LabelsAreLeast, Accounts, ComesFrom, TracedBack, IsWire, WireIsWire}
-use Rattle.route.proofs.Order.{none_some, some_is, cond_some, cases_option, then_some}
+use Rattle.route.specs.Paths.{LegalPath, LeastCost, maze, labels, label_of, wire_over, wire, LabelsAreLeast, ComesFrom, TracedBack, IsWire, WireIsWire}
+use Rattle.route.proofs.Order.{none_some, some_is, cond_some, then_some}
 use Rattle.route.proofs.Best.{least_is_least}
 use Rattle.route.proofs.Sweep.{swept_is_least}
 use Rattle.route.proofs.Wire.{length_visited, least_is_known, trace_is_least, trace_is_same, trace_goes}

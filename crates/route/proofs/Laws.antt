@@ -1,10 +1,9 @@
 -- The laws that the trait has are those that the theory asks for.
-use Rattle.std.proofs.Common.{◌≡◌, ℕ, suc, ◌<◌, ◌≤◌, Bool, true, false, cond, ◌⊎◌, List, [], ◌∷◌, length, is_some, Some, None, Option, sym, refl, ap, ◌∙◌, subst, inl, inr, ⊎_elim, arith}
+use Rattle.std.proofs.Common.{◌≡◌, true, false, Some, sym, ap, subst, ⊎_elim}
 use Rattle.std.proofs.lemmas.Bool.{both_ways, cases_Bool}
 use Rattle.grid.specs.declared.step.Step.{Step}
-use Rattle.tariff.specs.Rates.{Rates, Laws, then, charge, AllHad}
+use Rattle.tariff.specs.Rates.{Rates, Laws}
 use Rattle.route.specs.Lawful.{Lawful}
-use Rattle.route.proofs.Order.{cases_option}
 
 module _ {C : Type 0} {t : Rates C} (laws : Laws t) where
   one_way : (a b : C) → t.less a b ≡ true → t.less b a ≡ false

@@ -1,13 +1,12 @@
 -- A take, hop by hop. Assumes nothing.
-use Rattle.std.proofs.Common.{◌≡◌, ℕ, suc, Bool, true, false, cond, ◌&&◌, ◌≢◌, ◌⊎◌, List, [], ◌∷◌, ◌++◌, Some, None, Option, sym, refl, ap, ◌∙◌, subst, inl, inr}
-use Rattle.std.proofs.lemmas.Bool.{cases_eq, cases_Bool, both_ways, cond-true, cond-false, and_parts, and_from, and_right}
-use Rattle.grid.specs.declared.step.Step.{Step}
+use Rattle.std.proofs.Common.{◌≡◌, ℕ, Bool, true, false, cond, ◌&&◌, ◌≢◌, ◌⊎◌, List, [], ◌∷◌, ◌++◌, Some, None, Option, sym, refl, ap, ◌∙◌, subst, inl, inr}
+use Rattle.std.proofs.lemmas.Bool.{cases_eq, both_ways, cond-true, cond-false, and_parts, and_from, and_right}
 use Rattle.tariff.specs.Rates.{Rates}
 use Rattle.route.specs.Lawful.{Lawful}
 use Rattle.route.specs.Hops.{Hop, Among}
 use Rattle.route.specs.Search.{Maze, better, onward}
-use Rattle.route.specs.Queue.{State, Within, Offers, Took, Labelled, Offered, offer, is_new, TookNone, TookMore}
-use Rattle.route.proofs.Order.{none_some, some_is, cond_some, within_trans, leq_refl}
+use Rattle.route.specs.Queue.{State, Within, Offers, Took, Offered, is_new, TookNone, TookMore}
+use Rattle.route.proofs.Order.{cond_some, leq_refl}
 use Rattle.route.proofs.Best.{better_either, better_left, better_right}
 
 among_front : (x : Hop) (hs js : List Hop) → Among x hs → Among x (hs ++ js)

@@ -1,12 +1,12 @@
 -- What the laws of a tariff give: costs in order, charges that go on. Assumes nothing.
-use Rattle.std.proofs.Common.{◌≡◌, ℕ, ◌<◌, ◌≤◌, Bool, true, false, cond, ◌⊎◌, List, [], ◌∷◌, length, is_some, Some, None, Option, sym, refl, ap, ◌∙◌, subst, inl, inr, arith}
+use Rattle.std.proofs.Common.{◌≡◌, ℕ, ◌<◌, ◌≤◌, Bool, true, false, cond, ◌⊎◌, List, [], ◌∷◌, length, is_some, Some, None, Option, refl, subst, inl, inr, arith}
 use Rattle.std.proofs.lemmas.Bool.{both_ways, cases_Bool}
 use Rattle.grid.specs.declared.step.Step.{Step}
 use Rattle.tariff.specs.Rates.{Rates, then, AllHad}
 use Rattle.route.specs.Lawful.{Lawful}
 use Rattle.route.specs.Hops.{Hop}
 use Rattle.route.specs.Queue.{Within}
-use Rattle.route.specs.Search.{Maze, Legal, steps, cost, end}
+use Rattle.route.specs.Search.{Maze, Legal, steps, cost}
 
 -- options
 pub none_some : {C : Type 0} {A : Type 0} {c : C} → None ≡ Some c → A

@@ -1,14 +1,11 @@
 -- The wire, said of paths alone, is what is traced. Assumes nothing.
-use Rattle.std.proofs.Common.{◌≡◌, ℕ, zero, suc, ◌<◌, ◌≤◌, Bool, true, false, cond, ◌≢◌, ◌⊎◌, List, [], ◌∷◌, ◌++◌, length, Some, None, Option, sym, refl, ap, ◌∙◌, subst, ap₂, subst₂, inl, inr, arith}
-use Rattle.std.proofs.lemmas.Bool.{both_ways, cases_Bool, cond-true, cond-false}
-use Rattle.grid.specs.declared.step.Step.{Step}
+use Rattle.std.proofs.Common.{◌≡◌, ℕ, false, List, Some, sym, subst₂}
 use Rattle.tariff.specs.Rates.{Rates}
 use Rattle.route.specs.Lawful.{Lawful}
 use Rattle.route.specs.Hops.{Hop}
-use Rattle.route.specs.Search.{Maze, Legal, Route, Least, cost, end, steps, onward, least}
-use Rattle.route.specs.Wire.{is_cost, first, Numbered, Known}
-use Rattle.route.specs.Rule.{Rule, lower, rule_of, Tie, Best, Accounts, First}
-use Rattle.route.proofs.Order.{none_some, some_is, Leq, leq_same, goes_on, costed}
+use Rattle.route.specs.Search.{Maze, Route, Least, cost}
+use Rattle.route.specs.Rule.{lower, rule_of, Best}
+use Rattle.route.proofs.Order.{costed}
 
 module _ {C : Type 0} {t : Rates C} {limit : ℕ} (L : Lawful t limit) (m : Maze) where
   -- a path at the least cost is best

@@ -1,5 +1,5 @@
 -- A search that stops when a place is taken: its labels are costs that are known.
-use Rattle.std.proofs.Common.{◌≡◌, ℕ, Bool, true, false, ◌≢◌, ◌⊎◌, Some, None, Option, sym, refl, ap, ◌∙◌, subst, subst₂, inl, inr}
+use Rattle.std.proofs.Common.{◌≡◌, ℕ, true, ◌⊎◌, Some, sym, ap, ◌∙◌, subst₂, inl, inr}
 use Rattle.std.proofs.lemmas.Bool.{cases_eq}
 use Rattle.grid.specs.declared.step.Step.{Step}
 use Rattle.tariff.specs.Rates.{Rates}

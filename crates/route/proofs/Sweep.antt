@@ -1,16 +1,16 @@
 -- Swept labels are least costs. Assumes nothing.
-use Rattle.std.proofs.Common.{◌≡◌, ℕ, zero, suc, ◌+◌, ◌<◌, ◌≤◌, Bool, true, false, cond, ◌≢◌, ◌⊎◌, List, [], ◌∷◌, length, get_or, Some, None, Option, sym, refl, ap, ◌∙◌, subst, ap₂, inl, inr, arith}
+use Rattle.std.proofs.Common.{◌≡◌, ℕ, zero, suc, ◌+◌, ◌<◌, ◌≤◌, Bool, true, false, cond, ◌⊎◌, List, [], ◌∷◌, length, get_or, Some, None, Option, sym, refl, ap, ◌∙◌, inl, inr, arith}
 use mathlib.Core.Path.{fun_ext}
-use Rattle.std.proofs.lemmas.Bool.{both_ways, cases_Bool, cond-true, cond-false}
+use Rattle.std.proofs.lemmas.Bool.{cases_Bool, cond-false}
 use Rattle.tariff.specs.Rates.{Rates}
 use Rattle.route.specs.Lawful.{Lawful}
 use Rattle.route.specs.Hops.{Hop}
-use Rattle.route.specs.Search.{Maze, Route, Legal, Least, best, better, at_start, least, cost, end}
+use Rattle.route.specs.Search.{Maze, Route, Least, best, better, at_start, least, cost}
 use Rattle.route.specs.Wire.{Numbered, visited}
 use Rattle.route.specs.Sweep.{row, label, sweep, swept, SweptIsShort, SweptIsLeast}
-use Rattle.route.proofs.Order.{none_some, some_is, cases_option, Leq, leq_same, leq_trans}
+use Rattle.route.proofs.Order.{none_some, cases_option, Leq, leq_trans}
 use Rattle.route.proofs.Best.{least_is, is_least, found, routed}
-use Rattle.route.proofs.Wire.{Simple, simple, visited_free, length_visited}
+use Rattle.route.proofs.Wire.{simple, visited_free, length_visited}
 use Rattle.route.proofs.Holes.{holes}
 
 row_in : {A : Type 0} (f : ℕ → A) (d : A) (n i j : ℕ) → j < n → get_or (row f i n) j d ≡ f (i + j)

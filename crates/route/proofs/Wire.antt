@@ -1,18 +1,18 @@
 -- The trace is a least path, and the same over all costs that are known. Assumes nothing.
-use Rattle.std.proofs.Common.{◌≡◌, ℕ, zero, suc, ◌+◌, ◌<◌, ◌≤◌, Bool, true, false, cond, not, ◌&&◌, eqb, ◌≢◌, ◌⊎◌, List, [], ◌∷◌, ◌++◌, length, Some, None, Option, sym, refl, ap, ◌∙◌, subst, ap₂, subst₂, inl, inr, arith}
-use Rattle.std.proofs.lemmas.Bool.{both_ways, cases_eq, cases_Bool, eq-eqb, ne_eqb, eqb-true, cond-true, cond-false, and_from, and_parts, not-true, not_from_false}
+use Rattle.std.proofs.Common.{◌≡◌, ℕ, zero, suc, ◌+◌, ◌<◌, ◌≤◌, Bool, true, false, cond, not, eqb, ◌≢◌, ◌⊎◌, List, [], ◌∷◌, ◌++◌, length, Some, None, Option, sym, refl, ap, ◌∙◌, subst, ap₂, subst₂, inl, inr, arith}
+use Rattle.std.proofs.lemmas.Bool.{both_ways, cases_eq, cases_Bool, eq-eqb, ne_eqb, cond-true, cond-false, and_from, and_parts, not-true, not_from_false}
 use Rattle.grid.specs.declared.step.Step.{Step}
 use Rattle.tariff.specs.Rates.{Rates, then, charge}
 use Rattle.route.specs.Lawful.{Lawful}
 use Rattle.route.specs.Hops.{Hop, Among}
 use Rattle.route.specs.Search.{Maze, Legal, Route, Least, cost, end, steps, onward, least}
-use Rattle.route.specs.Queue.{Within, Next}
+use Rattle.route.specs.Queue.{Next}
 use Rattle.route.specs.Wire.{is_cost, first, accounts, back, hang, trace, Numbered, TraceIsLeast, Known, TraceIsSame, LeastIsKnown, visited, Goes, here, goes, TraceGoes}
-use Rattle.route.specs.Rule.{Rule, lower, rule_of, Accounts, First, Wire, TraceIsWire}
+use Rattle.route.specs.Rule.{lower, rule_of, Accounts, First, Wire, TraceIsWire}
 use Rattle.route.proofs.Rule.{best_of, least_of}
 use Rattle.route.specs.Listed.{On, NoneTwice}
 use Rattle.route.proofs.Holes.{in?, holes}
-use Rattle.route.proofs.Order.{none_some, some_is, cond_some, cases_option, then_some, Leq, leq_refl, leq_trans, lt_leq, leq_same, grown, goes_on, costed}
+use Rattle.route.proofs.Order.{none_some, some_is, cond_some, then_some, Leq, leq_refl, leq_trans, leq_same, grown, goes_on}
 use Rattle.route.proofs.Best.{least_is, is_least, routed}
 
 pub length_visited : (m : Maze) (w : List Hop) → length (visited m w) ≡ suc (length w)

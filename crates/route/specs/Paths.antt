@@ -1,5 +1,5 @@
 -- LEGAL PATHS, LEAST COSTS AND THE WIRE, as lists of places.
-use Rattle.std.specs.Prelude.{◌≡◌, ℕ, ◌≤◌, Bool, true, false, ◌⊎◌, ◌↔◌, List, [], ◌∷◌, ◌++◌, reverse, length, Some, None, Option, ◌≢◌, slice_index_or}
+use Rattle.std.specs.Prelude.{◌≡◌, ℕ, ◌≤◌, Bool, true, false, ◌↔◌, List, [], ◌∷◌, ◌++◌, reverse, length, Some, None, Option, ◌≢◌, slice_index_or}
 use Rattle.grid.specs.declared.step.Step.{Step}
 use Rattle.grid.specs.declared.step.Direction.{Direction}
 use Rattle.grid.specs.Places.{count_of}

@@ -1,7 +1,7 @@
 -- The search: places that are labelled with their least cost, places that wait at the cost of some path, and what taking one does.
 use Rattle.std.specs.Prelude.{◌≡◌, ℕ, suc, ◌<◌, ◌≤◌, Bool, true, false, cond, ◌&&◌, ◌≢◌, ◌⊎◌, List, [], ◌∷◌, ◌++◌, length, Some, None, Option}
 use Rattle.grid.specs.declared.step.Step.{Step}
-use Rattle.tariff.specs.Rates.{Rates, then}
+use Rattle.tariff.specs.Rates.{Rates}
 use Rattle.route.specs.Lawful.{Lawful}
 use Rattle.route.specs.Hops.{Hop, Among}
 use Rattle.route.specs.Wire.{Known}

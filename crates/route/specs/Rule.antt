@@ -5,7 +5,7 @@ use Rattle.grid.specs.declared.step.Step.{Step}
 use Rattle.tariff.specs.Rates.{Rates, charge}
 use Rattle.route.specs.Lawful.{Lawful}
 use Rattle.route.specs.Hops.{Hop, Among}
-use Rattle.route.specs.Search.{Maze, Route, end, steps, least}
+use Rattle.route.specs.Search.{Maze, Route, end, steps}
 use Rattle.route.specs.Wire.{Numbered, Known, trace}
 
 -- rows of steps have their last step first

@@ -1,5 +1,5 @@
 -- The labels of all places at once: swept as often as there are places.
-use Rattle.std.specs.Prelude.{◌≡◌, ℕ, zero, suc, ◌≤◌, Bool, cond, List, [], ◌∷◌, get_or, Some, None, Option, slice_index_or}
+use Rattle.std.specs.Prelude.{◌≡◌, ℕ, zero, suc, ◌≤◌, cond, List, [], ◌∷◌, get_or, None, Option, slice_index_or}
 use Rattle.tariff.specs.Rates.{Rates}
 use Rattle.route.specs.Lawful.{Lawful}
 use Rattle.route.specs.Search.{Maze, best, better, at_start, least}

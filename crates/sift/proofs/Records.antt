@@ -1,10 +1,10 @@
 -- What reads and writes of the list are in the layout.
-use Rattle.std.proofs.Common.{◌≡◌, ℕ, ◌+◌, ◌<◌, List, length, get_or, set, Some, None, Option, sym, refl, ap, ◌∙◌, ⊎_elim, arith, length-set, get_or-set_other, get_or-set_same}
+use Rattle.std.proofs.Common.{◌≡◌, ℕ, ◌+◌, ◌<◌, List, length, get_or, set, Some, Option, sym, refl, ap, ◌∙◌, ⊎_elim, arith, length-set, get_or-set_other, get_or-set_same}
 use Rattle.std.proofs.lemmas.Bool.{cases_eq, cases_lt, eq-eqb, ne_eqb}
 use Rattle.std.proofs.lemmas.Option.{slice_get-get_or, slice_get_past}
 use Rattle.std.specs.List.{slice_get}
 use Rattle.sift.specs.declared.record.HeapRecord.{HeapRecord}
-use Rattle.sift.specs.Layouts.{Layout, layout, filled, priced, changed, slot_in, at_in, cost_in}
+use Rattle.sift.specs.Layouts.{Layout, layout, priced, changed, slot_in, at_in, cost_in}
 
 -- what `changed` is
 pub changed_at : {X : Type 0} (f : ℕ → X) (i : ℕ) (x : X) (k : ℕ) → k ≡ i → changed f i x k ≡ x

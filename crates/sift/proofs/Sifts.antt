@@ -1,5 +1,5 @@
 -- One turn of a place that is sifted up or down.
-use Rattle.std.proofs.Common.{◌≡◌, ℕ, ◌+◌, ◌/◌, ◌<◌, ◌≤◌, true, false, Some, None, Option, sym, refl, ap, ◌∙◌, subst, arith}
+use Rattle.std.proofs.Common.{◌≡◌, ℕ, ◌+◌, ◌/◌, ◌<◌, ◌≤◌, true, false, Some, None, sym, refl, ap, ◌∙◌, subst, arith}
 use Rattle.tariff.specs.Rates.{Rates, Laws}
 use Rattle.sift.specs.Layouts.{Layout, room, filled, changed, lower, key, Order, Hole, HoleUp, HoleDown, SameWaiting, Sifted, Vacant, below_parent, lower_child}
 use Rattle.sift.proofs.Records.{changed_at, changed_off}

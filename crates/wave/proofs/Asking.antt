@@ -1,6 +1,6 @@
 -- What the questions of a search tell, and how its labels end up in the caller's list.
-use Rattle.std.proofs.Common.{◌≡◌, ℕ, zero, suc, ◌+◌, ◌-◌, ◌<◌, ◌≤◌, Bool, true, false, cond, ◌&&◌, ltb, leb, ◌⊎◌, List, [], ◌∷◌, ◌++◌, length, get_or, take, drop, Some, None, Ok, Err, Option, Result, sym, refl, ap, ◌∙◌, subst, inl, inr, ⊎_elim, arith}
-use borrow.Rule.Slice.PartMut.{put_mid, post_of}
+use Rattle.std.proofs.Common.{◌≡◌, ℕ, zero, suc, ◌-◌, ◌<◌, ◌≤◌, Bool, true, false, cond, ltb, leb, List, ◌++◌, length, get_or, take, drop, Some, None, Ok, Err, Option, Result, sym, refl, ap, ◌∙◌, subst, arith}
+use borrow.Rule.Slice.PartMut.{post_of}
 use Rattle.std.proofs.lemmas.List.{same_lists, get_or_default, drop_at, length-take-le}
 use Rattle.std.proofs.lemmas.Slice.{drop-put_mid}
 use Rattle.std.proofs.lemmas.Bool.{and_parts, leb-true, ltb-true}
@@ -16,8 +16,7 @@ use Rattle.route.specs.Sweep.{row, swept}
 use Rattle.route.proofs.Order.{none_some}
 use Rattle.route.proofs.Sweep.{swept_is_least}
 use Rattle.route.proofs.Laws.{lawful}
-use Rattle.wave.specs.declared.fault.SearchFault.{SearchFault}
-use Rattle.wave.specs.Questions.{search_refusal, Question, refused_by, unless, serves, wave_asks, search_asks, whole_wave, RefusalLeaves}
+use Rattle.wave.specs.Questions.{refused_by, unless, serves, wave_asks, search_asks, whole_wave, RefusalLeaves}
 
 -- a question that holds, and the rest
 passed : (b : Bool) (f : Refusal) (rest : Option Refusal) → cond b rest (Some f) ≡ None → (b ≡ true) × (rest ≡ None)

@@ -1,8 +1,8 @@
 -- How a wave begins.
-use Rattle.std.proofs.Common.{◌≡◌, ℕ, ◌+◌, ◌-◌, ◌<◌, ◌≤◌, Bool, true, false, cond, ◌⊎◌, List, [], ◌∷◌, ◌++◌, length, get_or, Some, None, Option, sym, refl, ap, ◌∙◌, subst, inl, inr, ⊎_elim, arith}
+use Rattle.std.proofs.Common.{◌≡◌, ℕ, ◌<◌, Bool, true, false, ◌⊎◌, List, get_or, Some, None, Option, sym, refl, ap, ◌∙◌, inl, inr, ⊎_elim, arith}
 use Rattle.std.proofs.lemmas.Bool.{both_ways, cases_eq}
 use Rattle.tariff.specs.Rates.{Rates}
-use Rattle.front.specs.Queue.{Queue, Starts, Started, NotStarted}
+use Rattle.front.specs.Queue.{Queue, Starts, Started}
 use Rattle.model.specs.Sheets.{Ground}
 use Rattle.route.specs.Paths.{maze}
 use Rattle.route.specs.Queue.{Fresh}

@@ -1,5 +1,5 @@
 -- What a search that reached its goal leaves.
-use Rattle.std.proofs.Common.{◌≡◌, ℕ, ◌+◌, ◌-◌, ◌<◌, ◌≤◌, Bool, true, false, ◌⊎◌, List, [], ◌∷◌, ◌++◌, length, get_or, take, drop, is_some, Some, None, Option, sym, refl, ap, ◌∙◌, subst, inl, inr, ⊎_elim, arith, length-append}
+use Rattle.std.proofs.Common.{◌≡◌, ℕ, ◌+◌, ◌<◌, ◌≤◌, List, ◌++◌, length, get_or, take, is_some, Some, None, Option, sym, ap, ◌∙◌, subst, ⊎_elim, arith, length-append}
 use borrow.Rule.Slice.PartMut.{post_of}
 use Rattle.std.proofs.lemmas.List.{get_or_append_left, get_or_past, drop_at, take_at, length-drop}
 use Rattle.std.proofs.lemmas.Bool.{cases_lt}
@@ -7,8 +7,7 @@ use Rattle.grid.specs.Places.{count_of}
 use Rattle.tariff.specs.Rates.{Rates, Laws}
 use Rattle.model.specs.Sheets.{Ground, Sound}
 use Rattle.route.specs.Listed.{On}
-use Rattle.route.specs.Paths.{LeastCost, maze, labels, label_of, wire_over, wire}
-use Rattle.route.specs.Search.{least}
+use Rattle.route.specs.Paths.{maze, labels, label_of, wire_over}
 use Rattle.route.proofs.Best.{is_least}
 use Rattle.route.proofs.Bridge.{least_cost}
 use Rattle.route.proofs.Labels.{same_wire, wire_labelled}

@@ -1,20 +1,20 @@
 -- What holds at each turn of the wave, and what a turn does to it.
-use Rattle.std.proofs.Common.{◌≡◌, ℕ, zero, suc, ◌+◌, ◌<◌, ◌≤◌, Bool, true, false, cond, eqb, ◌≢◌, ◌⊎◌, List, [], ◌∷◌, length, get_or, set, Some, None, Option, sym, refl, ap, ◌∙◌, subst, inl, inr, ⊎_elim, add-one, arith, length-set, get_or-set_other, get_or-set_same}
+use Rattle.std.proofs.Common.{◌≡◌, ℕ, zero, suc, ◌+◌, ◌<◌, ◌≤◌, true, ◌⊎◌, List, [], ◌∷◌, length, get_or, set, Some, None, Option, sym, refl, ◌∙◌, subst, inl, inr, add-one, arith, length-set, get_or-set_other, get_or-set_same}
 use Rattle.std.proofs.lemmas.Bool.{eqb-true}
 use Rattle.grid.specs.declared.shape.Shape.{Shape}
 use Rattle.grid.specs.Places.{count_of}
 use Rattle.grid.proofs.Numbering.{count_most}
 use Rattle.tariff.specs.Rates.{Rates, Laws}
-use Rattle.front.specs.Queue.{Queue, Removed, Empty, Started}
+use Rattle.front.specs.Queue.{Queue, Removed, Empty}
 use Rattle.model.specs.Sheets.{Ground, Sound as Solid}
 use Rattle.route.specs.Hops.{Hop, around}
 use Rattle.route.specs.Paths.{maze}
-use Rattle.route.specs.Search.{Maze, Legal, Route, Least, end, least}
-use Rattle.route.specs.Queue.{State, Sound, Fresh, MayTake, Took, Labelled, Reached}
+use Rattle.route.specs.Search.{Maze, Legal, end, least}
+use Rattle.route.specs.Queue.{Sound, Fresh, MayTake, Labelled}
 use Rattle.route.proofs.Around.{around_back}
 use Rattle.route.proofs.Order.{none_some, cases_option}
 use Rattle.route.proofs.Best.{is_least, is_none}
-use Rattle.route.proofs.Queue.{fresh_is_sound, sound_is_kept, all_are_labelled, taken_is_least, sound_is_known}
+use Rattle.route.proofs.Queue.{fresh_is_sound, sound_is_kept, all_are_labelled, sound_is_known}
 use Rattle.route.proofs.Offer.{took_none}
 use Rattle.route.proofs.Laws.{lawful}
 use Rattle.route.proofs.Stopped.{known_taken}

@@ -1,5 +1,5 @@
 -- The offers that a place makes once it is taken, on the state of a search.
-use Rattle.std.specs.Prelude.{◌≡◌, ℕ, List, [], ◌∷◌, Some, None, Option, slice_index_or}
+use Rattle.std.specs.Prelude.{◌≡◌, ℕ, List, [], Some, None, Option, slice_index_or}
 use Rattle.tariff.specs.Rates.{Rates}
 use Rattle.front.specs.Queue.{Queue, Serves}
 use Rattle.model.specs.Sheets.{Ground}

@@ -1,5 +1,5 @@
 -- What a wave, or a search to a goal, leaves in the labels.
-use Rattle.std.specs.Prelude.{◌≡◌, ℕ, ◌+◌, Bool, true, false, ◌⊎◌, List, [], ◌∷◌, get_or, Some, None, Option, ◌==◌, slice_index_or}
+use Rattle.std.specs.Prelude.{◌≡◌, ℕ, ◌+◌, Bool, false, List, [], ◌∷◌, get_or, Some, None, Option, ◌==◌, slice_index_or}
 use Rattle.tariff.specs.Rates.{Rates}
 use Rattle.route.specs.Search.{Maze, least}
 use Rattle.route.specs.Wire.{Known}

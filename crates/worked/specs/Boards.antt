@@ -1,5 +1,5 @@
 -- Small boards, and the costs and wires on them. Places are numbered as on any board; net 1 is routed.
-use Rattle.std.specs.Prelude.{◌≡◌, ℕ, ◌≤◌, List, [], ◌∷◌, replicate, Some, None, Option}
+use Rattle.std.specs.Prelude.{◌≡◌, ℕ, ◌≤◌, [], ◌∷◌, replicate, Some, None, Option}
 use Rattle.std.proofs.Common.{lit≤}
 use Rattle.grid.specs.declared.shape.Shape.{Shape}
 use Rattle.tariff.specs.Rates.{Rates}

@@ -1,4 +1,4 @@
-use Rattle.std.proofs.Common.{◌≡◌, sym, refl, ◌∙◌}
+use Rattle.std.proofs.Common.{refl, ◌∙◌}
 use Rattle.model.proofs.PathLaws.{laying_none, laying_granted, laying_more, laying_all, err_ok}
 use Rattle.cover.proofs.lay_each.Invariants.{board}
 use Rattle.cover.proofs.lay_each.Goals as goal

@@ -1,4 +1,4 @@
-use Rattle.std.proofs.Common.{◌<◌, ◌≤◌, length, arith}
+use Rattle.std.proofs.Common.{length, arith}
 use Rattle.sift.specs.Layouts.{layout, room, filled}
 use Rattle.sift.proofs.Orders.{lower_child_some}
 use Rattle.sift.proofs.Sifts.{same_self, hole_place, hole_fits, hole_vacant, down_turn, down_done}

@@ -1,4 +1,4 @@
-use Rattle.std.proofs.Common.{◌≡◌, ℕ, List, [], ◌∷◌, get_or, ap, ◌∙◌, rules}
+use Rattle.std.proofs.Common.{get_or, ap, ◌∙◌, rules}
 use Rattle.model.specs.Sheets.{Held}
 use Rattle.sheet_limits.proofs.ListLaws.{wires}
 use Rattle.sheet_limits.proofs.tests.wire_list.Goals as goal

@@ -1,6 +1,4 @@
-use Rattle.std.proofs.Common.{◌≡◌, ◌+◌, ◌<◌, ◌≤◌, length, get_or, take, sym, refl, ap, ◌∙◌, subst, arith, take_all}
-use Rattle.grid.specs.Places.{count_of}
-use Rattle.grid.specs.Steps.{kind}
+use Rattle.std.proofs.Common.{◌+◌, take, sym, refl, ◌∙◌, subst, arith, take_all}
 use Rattle.grid.proofs.Joining.{joined}
 use Rattle.route.specs.Hops.{gather, hop}
 use Rattle.wave.specs.Offers.{Offers, OffersAll}

@@ -1,4 +1,4 @@
-use Rattle.std.proofs.Common.{◌≡◌, ℕ, ◌+◌, ◌-◌, ◌<◌, ◌≤◌, length, take, drop, Some, None, sym, refl, ap, ◌∙◌, subst, arith, rules}
+use Rattle.std.proofs.Common.{◌≡◌, ◌-◌, length, sym, ap, ◌∙◌, arith}
 use Rattle.grid.specs.Places.{count_of}
 use Rattle.wave.specs.Questions.{found}
 use Rattle.wave.proofs.Asking.{granted, denied, unless_some, unless_none, search_allowed, front_size, label_least, whole_list, leaves_whole, leaves_same}

@@ -1,6 +1,6 @@
-use Rattle.std.proofs.Common.{◌≡◌, ℕ, suc, ◌+◌, ◌<◌, ◌≤◌, length, get_or, set, sym, refl, ap, ◌∙◌, subst, arith, length-set, rules}
+use Rattle.std.proofs.Common.{◌≡◌, ◌<◌, length, sym, ap, ◌∙◌, arith, length-set, rules}
 use Rattle.grid.specs.Places.{count_of}
-use Rattle.wave.proofs.Spreading.{Going, begun, inside, within, fell, few, onward, arrived, ended}
+use Rattle.wave.proofs.Spreading.{begun, inside, within, fell, few, onward, arrived, ended}
 use Rattle.wave.proofs.spread.spread.Goals as goal
 
 pub loop-found-init : goal.loop-found-init

@@ -1,5 +1,3 @@
-use Rattle.grid.specs.Places.{count_of}
-use Rattle.std.proofs.Common.{◌≡◌}
 use Rattle.wave.specs.Spread.{unlabelled}
 use Rattle.wave.proofs.Spreading.{Going}
 use Rattle.wave.proofs.spread.spread.Given as goal

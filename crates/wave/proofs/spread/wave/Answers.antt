@@ -1,4 +1,4 @@
-use Rattle.std.proofs.Common.{◌≡◌, ℕ, ◌+◌, ◌-◌, ◌<◌, ◌≤◌, length, take, drop, Some, None, Ok, Err, sym, refl, ap, ◌∙◌, subst, arith}
+use Rattle.std.proofs.Common.{◌≡◌, ◌-◌, length, Ok, refl, ap, ◌∙◌, arith}
 use Rattle.grid.specs.Places.{count_of}
 use Rattle.wave.specs.Spread.{labelled}
 use Rattle.wave.proofs.Asking.{granted, denied, unless_some, unless_none, wave_allowed, front_size, whole_labels, whole_list}

@@ -1,4 +1,4 @@
-use Rattle.std.proofs.Common.{◌≡◌, ℕ, ◌-◌, min, List, length, take, sym, ap, ◌∙◌, arith}
+use Rattle.std.proofs.Common.{◌≡◌, ℕ, ◌-◌, min, List, length, take, ap, ◌∙◌, arith}
 use Rattle.keep_out.specs.declared.row.Row.{Row}
 use Rattle.keep_out.specs.KeptOut.{kept_out}
 use Rattle.keep_out.proofs.Rows.{take_most}

@@ -1,4 +1,3 @@
-use Rattle.std.proofs.Common.{◌≤◌}
 use Rattle.model.proofs.WideLaws.{Counted}
 use Rattle.wide.proofs.wide_sheet.WideSheetSheet.spares.Given as goal
 
