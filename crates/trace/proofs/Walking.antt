@@ -1,5 +1,5 @@
 -- What a pass over a trace comes to.
-use Rattle.std.proofs.Common.{◌≡◌, ℕ, suc, ◌+◌, ◌-◌, ◌<◌, ◌≤◌, Bool, true, false, cond, eqb, List, [], ◌∷◌, map, reverse, length, drop, set, Some, None, Option, sym, refl, ap, ◌∙◌, subst, arith}
+use Rattle.std.proofs.Common.{◌≡◌, ℕ, suc, ◌+◌, ◌-◌, List, [], ◌∷◌, reverse, length, drop, set, sym, ap, ◌∙◌, arith}
 use mathlib.Core.List.{reverse_aux}
 use lib.ListN.{length-map}
 use lib.Seq.{drop-length}

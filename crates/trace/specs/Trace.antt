@@ -1,5 +1,5 @@
 -- The wire traced back over labels: what is asked, answered and written.
-use Rattle.std.specs.Prelude.{◌≡◌, ℕ, ◌+◌, List, [], ◌∷◌, ◌++◌, length, take, drop, Some, None, Ok, Option, Result, nat_le}
+use Rattle.std.specs.Prelude.{ℕ, ◌+◌, List, [], ◌∷◌, ◌++◌, length, take, drop, Some, None, Ok, Option, Result, nat_le}
 use Rattle.grid.specs.Faults.{Refusal}
 use Rattle.grid.specs.Places.{count_of}
 use Rattle.tariff.specs.Rates.{Rates}

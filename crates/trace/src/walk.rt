@@ -1,5 +1,6 @@
 // The trace as an iterator over places.
 ghost use Rattle.std.specs.Prelude.{length};
+ghost use Rattle.std.specs.Iterator.{at_most};
 ghost use Rattle.trace.specs.Walk.{Gives, places_left, Begun};
 
 use super::back::place_before;
@@ -25,9 +26,7 @@ impl<'a, T: Tariff> Iterator for Trace<'a, T> {
 
     ghost next_gives = { λ s r u. Gives (places_left T.Tariff.rates s) r (places_left T.Tariff.rates u) };
 
-    ghost ends = { λ _. Unit {0} };
-
-    ghost remaining = { λ s. length (places_left T.Tariff.rates s) };
+    ghost remaining = { λ s. at_most (length (places_left T.Tariff.rates s)) };
 
     fn next(&mut self) -> Option<u32> {
         let place = self.next?;

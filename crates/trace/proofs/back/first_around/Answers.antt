@@ -6,12 +6,12 @@ use Rattle.trace.specs.Walk.{place_of}
 use Rattle.trace.proofs.Stepping.{first_along, gather_outside}
 use Rattle.trace.proofs.back.first_around.Goals as goal
 
-pub returns-in-err-site : goal.returns-in-err-site
-returns-in-err-site g c =
-    c.from-residual.ensures
-    ∙ ap (λ hs. place_of (first g.T.Tariff.rates (label_of c.args.labels.now) c.args.cost hs)) (sym (gather_outside c.args.shape c.args.place c.in-err-site.ensures order))
+pub returns-in_err-site : goal.returns-in_err-site
+returns-in_err-site g c =
+    c.from_residual.ensures
+    ∙ ap (λ hs. place_of (first g.T.Tariff.rates (label_of c.args.labels.now) c.args.cost hs)) (sym (gather_outside c.args.shape c.args.place c.in_err-site.ensures order))
 
 pub returns : goal.returns
 returns g c =
-    let (s, p, a) = c.in-ok-site.ensures in
-    first_along g.T.Tariff.rates (label_of c.args.labels.now) c.args.cost s p c.directions.ensures.is c.first-of.ensures
+    let (s, p, a) = c.in_ok-site.ensures in
+    first_along g.T.Tariff.rates (label_of c.args.labels.now) c.args.cost s p c.directions.ensures.is c.first_of.ensures

@@ -5,12 +5,12 @@ use Rattle.trace.specs.Trace.{traced, trace_answer}
 use Rattle.trace.proofs.Answering.{after_search, refused, told}
 use Rattle.trace.proofs.wire.wire_length.Goals as goal
 
-pub returns-in-err-trace : goal.returns-in-err-trace
-returns-in-err-trace g c =
+pub returns-in_err-trace : goal.returns-in_err-trace
+returns-in_err-trace g c =
     let m = g.G.Ground.meaning c.args.area.now in
     let ls = c.args.labels.now in
-    let r = c.from-residual.result in
-    let a = refused m (length ls) (length (traced g.T.Tariff.rates m c.args.net c.args.start c.args.goal ls)) c.in-err-trace.field-0.0 r c.in-err-trace.ensures c.from-residual.ensures.1 in
+    let r = c.from_residual.result in
+    let a = refused m (length ls) (length (traced g.T.Tariff.rates m c.args.net c.args.start c.args.goal ls)) c.in_err-trace.field-0.0 r c.in_err-trace.ensures c.from_residual.ensures.1 in
     record {
       answer = a;
       wire = after_search g.met.T.Tariff.laws m (g.G.Ground.sound c.args.area.now) c.args.net c.args.start c.args.goal ls
@@ -18,13 +18,13 @@ returns-in-err-trace g c =
     }
 
 pub count-requires : goal.count-requires
-count-requires g c = (c.in-ok-trace.ensures.1 c.args.net).few
+count-requires g c = (c.in_ok-trace.ensures.1 c.args.net).few
 
 pub returns : goal.returns
 returns g c =
     let m = g.G.Ground.meaning c.args.area.now in
     let ls = c.args.labels.now in
-    let a = told g.T.Tariff.rates m c.args.net c.args.start c.args.goal ls c.in-ok-trace.trace c.in-ok-trace.ensures length (λ ps. length-reverse ps) c.count.result c.count.ensures in
+    let a = told g.T.Tariff.rates m c.args.net c.args.start c.args.goal ls c.in_ok-trace.trace c.in_ok-trace.ensures length (λ ps. length-reverse ps) c.count.result c.count.ensures in
     record {
       answer = a;
       wire = after_search g.met.T.Tariff.laws m (g.G.Ground.sound c.args.area.now) c.args.net c.args.start c.args.goal ls
