@@ -1,4 +1,4 @@
--- The numbering of places is one_to_one, and how large the numbers are.
+-- The numbering of places is one-to-one, and how large the numbers are.
 use Rattle.std.proofs.Common.{◌≡◌, ℕ, ◌+◌, ◌*◌, ◌/◌, ◌%◌, ◌<◌, ◌≤◌, true, ltb, Some, None, sym, ap, ◌∙◌, subst, ⊎_elim, arith}
 use lib.Arith.{digits_lt}
 use Rattle.std.proofs.lemmas.Nat.{mul-le, div-add-mod', div_below, mod_below, div-mul-add, mod-mul-add}

@@ -27,6 +27,6 @@ unfoldable pub gather : Shape → ℕ → List Direction → List Hop
 gather s p [] = []
 gather s p (d ∷ ds) = put_in (kind d) (neighbour_of s p d) (gather s p ds)
 
--- the neighbours of the place p, in the trace_back order
+-- the neighbours of the place p, in the trace-back order
 abbrev pub around : Shape → ℕ → List Hop
 around s p = gather s p order

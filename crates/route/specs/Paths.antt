@@ -85,7 +85,7 @@ pub record Accounts {C : Type 0} (t : Rates C) (g : Ground) (n start p : ℕ) (d
   pub there_least : LeastCost t g n start q there
   pub equal : t.after there (kind d) ≡ Some here
 
--- q is the first neighbour of p, in the trace_back order, that accounts for its least cost
+-- q is the first neighbour of p, in the trace-back order, that accounts for its least cost
 pub record ComesFrom {C : Type 0} (t : Rates C) (g : Ground) (n start p q : ℕ) : Type 0 where
   pub before : List Direction
   pub at : Direction

@@ -72,7 +72,7 @@ fn first_of<T: Tariff>(
     None
 }
 
-// The first neighbour of a place, in the trace_back order, that accounts for a cost.
+// The first neighbour of a place, in the trace-back order, that accounts for a cost.
 fn first_around<T: Tariff>(
     shape: Shape,
     place: u32,
