@@ -1,5 +1,5 @@
 -- The price that is computed is what the wire costs.
-use Rattle.std.proofs.Common.{◌≡◌, ℕ, ◌+◌, ◌-◌, ◌<◌, ◌≤◌, Bool, true, false, cond, ltb, ◌↔◌, List, [], ◌∷◌, length, get_or, drop, Some, None, Ok, Err, Option, Result, sym, refl, ap, ◌∙◌, ⊎_elim, arith}
+use Rattle.std.proofs.Common.{◌≡◌, ℕ, ◌+◌, ◌<◌, ◌≤◌, Bool, true, false, cond, ltb, ◌↔◌, List, [], ◌∷◌, length, slice_index_or, drop, Some, None, Ok, Err, Option, Result, sym, refl, ap, ◌∙◌, ⊎_elim, arith}
 use mathlib.Core.List.{reverse_aux}
 use Rattle.std.proofs.lemmas.List.{drop_more, drop_all}
 use Rattle.std.proofs.lemmas.Bool.{cases_lt, lt-ltb, le-ltb, cond-true, cond-false}
@@ -10,37 +10,36 @@ use Rattle.grid.specs.Steps.{step_between}
 use Rattle.grid.proofs.Between.{between_joins}
 use Rattle.tariff.specs.Rates.{Rates, then, charge, AllHad}
 use Rattle.pricing.specs.declared.leg.Leg.{Leg}
-use Rattle.pricing.specs.declared.leg.StepFault.{StepFault}
-use Rattle.pricing.specs.declared.leg.StepFault.TheVariants.{Lacked}
-use Rattle.pricing.specs.declared.leg.WireFault.{WireFault}
-use Rattle.pricing.specs.declared.leg.WireFault.TheVariants.{AtStep}
+use Rattle.pricing.specs.declared.fault.StepFault.{StepFault}
+use Rattle.pricing.specs.declared.fault.StepFault.TheVariants.{Lacked}
+use Rattle.pricing.specs.declared.fault.WireFault.{WireFault}
+use Rattle.pricing.specs.declared.fault.WireFault.TheVariants.{AtStep}
 use Rattle.pricing.specs.Prices.{Walk, Costs, ended, leg_price, step_price, go_on, price_from, wire_price}
 
 module _ {C : Type 0} (t : Rates C) (s : Shape) where
-  -- one leg of the loop
-  price_more : (ws : List ℕ) (i : ℕ) (c : C) → i < length ws →
-      price_from t s i (get_or ws (i - 1) 0) c (drop i ws) ≡
-      go_on i (step_price t s (get_or ws (i - 1) 0) (get_or ws i 0) c) (λ d. price_from t s (i + 1) (get_or ws i 0) d (drop (i + 1) ws))
+  -- one step of the loop
+  price_more : (ws : List ℕ) (i n p : ℕ) (c : C) → i < length ws →
+      price_from t s n p c (drop i ws) ≡
+      go_on n (step_price t s p (slice_index_or ws i 0) c) (λ d. price_from t s (n + 1) (slice_index_or ws i 0) d (drop (i + 1) ws))
   unfolding price_from
-  price_more ws i c h = ap (price_from t s i (get_or ws (i - 1) 0) c) (drop_more ws i 0 h)
+  price_more ws i n p c h = ap (price_from t s n p c) (drop_more ws i 0 h)
 
   -- it is none
-  pub price_stops : (ws : List ℕ) (i : ℕ) (c : C) (f : StepFault) → i < length ws → Err f ≡ step_price t s (get_or ws (i - 1) 0) (get_or ws i 0) c →
-      Err (AtStep i f) ≡ price_from t s i (get_or ws (i - 1) 0) c (drop i ws)
-  price_stops ws i c f h e = ap (λ r. go_on i r (λ d. price_from t s (i + 1) (get_or ws i 0) d (drop (i + 1) ws))) e ∙ sym (price_more ws i c h)
+  pub price_stops : (ws : List ℕ) (i n p : ℕ) (c : C) (f : StepFault) → i < length ws → Err f ≡ step_price t s p (slice_index_or ws i 0) c →
+      Err (AtStep n f) ≡ price_from t s n p c (drop i ws)
+  price_stops ws i n p c f h e =
+      ap (λ r. go_on n r (λ d. price_from t s (n + 1) (slice_index_or ws i 0) d (drop (i + 1) ws))) e ∙ sym (price_more ws i n p c h)
 
   -- it is one
-  pub price_goes : (ws : List ℕ) (i : ℕ) (c : C) (leg : Leg C) → i < length ws → Ok leg ≡ step_price t s (get_or ws (i - 1) 0) (get_or ws i 0) c →
-      price_from t s (i + 1) (get_or ws (i + 1 - 1) 0) leg.cost (drop (i + 1) ws) ≡ price_from t s i (get_or ws (i - 1) 0) c (drop i ws)
-  price_goes ws i c leg h e =
-      let n : i + 1 - 1 ≡ i = omega arith in
-      ap (λ k. price_from t s (i + 1) (get_or ws k 0) leg.cost (drop (i + 1) ws)) n ∙
-      ap (λ r. go_on i r (λ d. price_from t s (i + 1) (get_or ws i 0) d (drop (i + 1) ws))) e ∙ sym (price_more ws i c h)
+  pub price_goes : (ws : List ℕ) (i n p : ℕ) (c : C) (leg : Leg C) → i < length ws → Ok leg ≡ step_price t s p (slice_index_or ws i 0) c →
+      price_from t s (n + 1) (slice_index_or ws i 0) leg.cost (drop (i + 1) ws) ≡ price_from t s n p c (drop i ws)
+  price_goes ws i n p c leg h e =
+      ap (λ r. go_on n r (λ d. price_from t s (n + 1) (slice_index_or ws i 0) d (drop (i + 1) ws))) e ∙ sym (price_more ws i n p c h)
 
   -- and its end
-  pub price_all : (ws : List ℕ) (i p : ℕ) (c : C) → length ws ≤ i → price_from t s i p c (drop i ws) ≡ Ok c
+  pub price_all : (ws : List ℕ) (i n p : ℕ) (c : C) → length ws ≤ i → price_from t s n p c (drop i ws) ≡ Ok c
   unfolding price_from
-  price_all ws i p c h = ap (price_from t s i p c) (drop_all i ws h)
+  price_all ws i n p c h = ap (price_from t s n p c) (drop_all i ws h)
 
   -- the rest of a wire, from the place p on: `done` are the steps up to p, the last one first
   record Rest (p : ℕ) (ps : List ℕ) (done : List Step) (d : C) : Type 0 where

@@ -1,15 +1,15 @@
 -- What a wire costs.
-use Rattle.std.specs.Prelude.{◌≡◌, ℕ, ◌+◌, ◌<◌, cond, List, [], ◌∷◌, reverse, Some, None, Ok, Err, Option, Result, nat_lt}
+use Rattle.std.specs.Prelude.{◌≡◌, ℕ, ◌+◌, ◌<◌, if◌then◌else◌, List, [], ◌∷◌, reverse, Some, None, Ok, Err, Option, Result, nat_lt}
 use Rattle.grid.specs.declared.shape.Shape.{Shape}
 use Rattle.grid.specs.declared.step.Step.{Step}
 use Rattle.grid.specs.Places.{count_of}
 use Rattle.grid.specs.Steps.{Joins, step_between}
 use Rattle.tariff.specs.Rates.{Rates, charge, AllHad}
 use Rattle.pricing.specs.declared.leg.Leg.{Leg}
-use Rattle.pricing.specs.declared.leg.StepFault.{StepFault}
-use Rattle.pricing.specs.declared.leg.StepFault.TheVariants.{NotJoined, Lacked, Refused}
-use Rattle.pricing.specs.declared.leg.WireFault.{WireFault}
-use Rattle.pricing.specs.declared.leg.WireFault.TheVariants.{NoPlace, OutsideShape, AtStep}
+use Rattle.pricing.specs.declared.fault.StepFault.{StepFault}
+use Rattle.pricing.specs.declared.fault.StepFault.TheVariants.{NotJoined, Lacked, Refused}
+use Rattle.pricing.specs.declared.fault.WireFault.{WireFault}
+use Rattle.pricing.specs.declared.fault.WireFault.TheVariants.{NoPlace, OutsideShape, AtStep}
 
 -- consecutive places of the list are joined by these steps; a place alone is a wire of no steps
 abbrev pub Walk : Shape → List ℕ → List Step → Type 0
@@ -35,7 +35,7 @@ ended k (Some d) = Ok (record { step = k; cost = d })
 
 abbrev pub leg_price : {C : Type 0} → Rates C → C → Option Step → Result (Leg C) StepFault
 leg_price t c None = Err NotJoined
-leg_price t c (Some k) = cond (t.has k) (ended k (t.after c k)) (Err (Lacked k))
+leg_price t c (Some k) = if t.has k then ended k (t.after c k) else Err (Lacked k)
 
 abbrev pub step_price : {C : Type 0} → Rates C → Shape → ℕ → ℕ → C → Result (Leg C) StepFault
 step_price t s p q c = leg_price t c (step_between s p q)
@@ -52,4 +52,4 @@ price_from t s n p c (q ∷ qs) = go_on n (step_price t s p q c) (λ d. price_fr
 
 abbrev pub wire_price : {C : Type 0} → Rates C → Shape → List ℕ → Result C WireFault
 wire_price t s [] = Err NoPlace
-wire_price t s (p ∷ ps) = cond (nat_lt p (count_of s)) (price_from t s 1 p t.nothing ps) (Err (OutsideShape p))
+wire_price t s (p ∷ ps) = if nat_lt p (count_of s) then price_from t s 1 p t.nothing ps else Err (OutsideShape p)

@@ -4,10 +4,12 @@
 ghost use Rattle.std.specs.Prelude.{◌≡◌, ◌↔◌, Ok};
 ghost use Rattle.pricing.specs.Prices.{step_price, wire_price, Costs};
 
+pub mod fault;
 pub mod leg;
 
+pub use fault::{StepFault, WireFault};
 use grid::Shape;
-pub use leg::{Leg, StepFault, WireFault};
+pub use leg::Leg;
 use tariff::Tariff;
 
 // The step from one place to another and the cost at its end, where the wire costs so much up to its start.
@@ -19,16 +21,12 @@ pub fn price_step<T: Tariff>(
 ) -> Result<Leg<T::Cost>, StepFault>
     ensures { result ≡ step_price T.Tariff.rates shape from to so_far }
 {
-    let Some(step) = shape.step(from, to) else {
-        return Err(StepFault::NotJoined);
-    };
+    let step = shape.step(from, to).ok_or(StepFault::NotJoined)?;
     if !T::has(step) {
         return Err(StepFault::Lacked(step));
     }
-    match T::after(so_far, step) {
-        Some(cost) => Ok(Leg { step, cost }),
-        None => Err(StepFault::Refused(step)),
-    }
+    let cost = T::after(so_far, step).ok_or(StepFault::Refused(step))?;
+    Ok(Leg { step, cost })
 }
 
 // What the wire through these places costs, or why they are none.
@@ -36,26 +34,17 @@ pub fn price<T: Tariff>(shape: Shape, wire: &[u32]) -> Result<T::Cost, WireFault
     ensures is { result ≡ wire_price T.Tariff.rates shape wire.now }
     ensures wire { (c : T.Cost) → (result ≡ Ok c) ↔ Costs T.Tariff.rates shape wire.now c }
 {
-    priced::<T>(shape, wire)
-}
-
-// The same, leg by leg.
-fn priced<T: Tariff>(shape: Shape, wire: &[u32]) -> Result<T::Cost, WireFault>
-    ensures { result ≡ wire_price T.Tariff.rates shape wire.now }
-{
-    if wire.len() == 0 {
-        return Err(WireFault::NoPlace);
-    }
-    let start = wire[0];
-    if start >= shape.places() {
-        return Err(WireFault::OutsideShape(start));
+    let (start, rest) = wire.split_first().ok_or(WireFault::NoPlace)?;
+    let mut from = *start;
+    if from >= shape.places() {
+        return Err(WireFault::OutsideShape(from));
     }
     let mut cost = T::nothing();
-    for i in 1..wire.len() {
-        match price_step::<T>(shape, wire[i - 1], wire[i], cost) {
-            Ok(leg) => cost = leg.cost,
-            Err(fault) => return Err(WireFault::AtStep(i, fault)),
-        }
+    for (i, to) in rest.iter().enumerate() {
+        let at_step = |fault| WireFault::AtStep(i + 1, fault);
+        let leg = price_step::<T>(shape, from, *to, cost).map_err(at_step)?;
+        cost = leg.cost;
+        from = *to;
     }
     Ok(cost)
 }
