@@ -1,7 +1,7 @@
 // The octile tariff: straight steps, diagonals and vias, in numbers a + b√2.
 #![tactic(auto)]
 
-ghost use Rattle.std.specs.Prelude.{◌≡◌};
+ghost use Rattle.std.specs.Prelude.{◌≡◌, refl};
 ghost use Rattle.octile.specs.Octile.{WorkedCosts, octile_rates, octile_within};
 ghost use Rattle.octile.specs.OctileLaws.{octile_laws};
 
@@ -34,9 +34,13 @@ impl Tariff for Octile {
 
     const SPAN: u32 = 8;
 
+    ghost SPAN = { 8 };
+
     ghost rates = { octile_rates };
 
     ghost laws = { octile_laws };
+
+    ghost span_is = { refl };
 
     fn nothing() -> Surd {
         Surd { a: 0, b: 0 }
@@ -60,10 +64,6 @@ impl Tariff for Octile {
 
     fn level(cost: Surd) -> u64 {
         cost.whole()
-    }
-
-    fn max_rise() -> u32 {
-        Self::SPAN
     }
 }
 

@@ -1,7 +1,7 @@
 // The rectilinear tariff: straight steps and vias, no diagonals.
 #![tactic(auto)]
 
-ghost use Rattle.std.specs.Prelude.{◌≡◌};
+ghost use Rattle.std.specs.Prelude.{◌≡◌, refl};
 ghost use Rattle.rectilinear.specs.Rectilinear.{rectilinear_rates, within};
 ghost use Rattle.rectilinear.specs.RectilinearLaws.{rectilinear_laws};
 
@@ -26,9 +26,13 @@ impl Tariff for Rectilinear {
 
     const SPAN: u32 = 8;
 
+    ghost SPAN = { 8 };
+
     ghost rates = { rectilinear_rates };
 
     ghost laws = { rectilinear_laws };
+
+    ghost span_is = { refl };
 
     fn nothing() -> u32 {
         0
@@ -56,9 +60,5 @@ impl Tariff for Rectilinear {
 
     fn level(cost: u32) -> u64 {
         u64::from(cost)
-    }
-
-    fn max_rise() -> u32 {
-        Self::SPAN
     }
 }

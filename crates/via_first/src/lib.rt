@@ -1,7 +1,7 @@
 // The via-first tariff: the path with the fewest vias, and among those the shortest.
 #![tactic(auto)]
 
-ghost use Rattle.std.specs.Prelude.{◌≡◌, true, ◌↔◌, Some};
+ghost use Rattle.std.specs.Prelude.{◌≡◌, true, ◌↔◌, Some, refl};
 ghost use Rattle.via_first.specs.ViaFirst.{FewerViasOrShorter, via_first_cost, via_first_rates, via_first_text, via_first_within};
 ghost use Rattle.via_first.specs.ViaFirstLaws.{via_first_laws};
 
@@ -53,9 +53,13 @@ impl Tariff for ViaFirst {
 
     const SPAN: u32 = 0;
 
+    ghost SPAN = { 0 };
+
     ghost rates = { via_first_rates };
 
     ghost laws = { via_first_laws };
+
+    ghost span_is = { refl };
 
     fn nothing() -> ViaFirstCost {
         ViaFirstCost {
@@ -87,9 +91,5 @@ impl Tariff for ViaFirst {
 
     fn level(_cost: ViaFirstCost) -> u64 {
         0
-    }
-
-    fn max_rise() -> u32 {
-        Self::SPAN
     }
 }
