@@ -2,7 +2,7 @@
 use Rattle.std.proofs.Common.{◌≡◌, ℕ, zero, suc, ◌+◌, ◌*◌, ◌<◌, ◌≤◌, Bool, true, false, leb, refl, arith}
 use Rattle.std.proofs.lemmas.Bool.{leb-true, leb-false}
 use Rattle.surd.specs.Surds.{root_up_to, whole_part}
-use Rattle.surd.proofs.Squares.{square_sum, square_double, square_le, square_lt}
+use Rattle.surd.specs.Squares.{square_sum, square_double, square_le, square_lt}
 
 -- one step of the recursion
 step_down : (c : Bool) (m t r : ℕ) → leb (suc t * suc t) m ≡ c → m < (suc t + 1) * (suc t + 1) →

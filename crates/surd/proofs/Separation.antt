@@ -5,8 +5,8 @@ use Rattle.std.proofs.lemmas.Bool.{cases_lt, cases_Bool, ltb-true, ltb-false}
 use Rattle.std.proofs.lemmas.Nat.{mul-le}
 use Rattle.surd.specs.declared.Surd.{Surd}
 use Rattle.surd.specs.Surds.{excess, is_below, at, Separated}
-use Rattle.surd.proofs.Squares.{square_sum, square_product, square_double, square_zero, square_counts, square_le, square_lt}
-use Rattle.surd.proofs.Order.{fall_in_a, fall_in_b}
+use Rattle.surd.specs.Squares.{square_sum, square_product, square_double, square_zero, square_counts, square_le, square_lt}
+use Rattle.surd.specs.OrderLaws.{fall_in_a, fall_in_b}
 
 -- q times what x has more than y where √2 is taken as p/q, part by part
 abbrev gap : Surd → Surd → ℕ → ℕ → ℕ

@@ -1,5 +1,7 @@
 -- The numbers a + b√2.
 use Rattle.std.specs.Prelude.{◌≡◌, ℕ, zero, suc, ◌+◌, ◌-◌, ◌*◌, ◌<◌, Bool, true, false, List, ◌++◌, length, codes, decimal, nat_le, nat_lt, slice_index}
+use Rattle.std.specs.Ordering.{nat_cmp}
+use Rattle.std.specs.declared.cmp.Ordering.{Ordering}
 use Rattle.surd.specs.declared.Surd.{Surd}
 
 -- a + b√2
@@ -14,6 +16,10 @@ excess x y = (x.a - y.a) * (x.a - y.a) + 2 * ((x.b - y.b) * (x.b - y.b))
 -- twice that of the difference in b
 abbrev pub is_below : Surd → Surd → Bool
 is_below x y = nat_lt (excess x y) (excess y x)
+
+-- the same as an answer of three: the number that exceeds the other by more is the greater
+abbrev pub order : Surd → Surd → Ordering
+order x y = nat_cmp (excess x y) (excess y x)
 
 -- q times what x comes to, where the fraction p/q is taken for √2
 abbrev pub at : Surd → ℕ → ℕ → ℕ

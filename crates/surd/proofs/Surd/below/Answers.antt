@@ -1,5 +1,10 @@
+use Rattle.std.proofs.Common.{◌∙◌}
+use Rattle.surd.specs.OrderLaws.{order_less}
 use Rattle.surd.proofs.Separation.{answer_separated}
 use Rattle.surd.proofs.Surd.below.Goals as goal
 
-pub returns : goal.returns
-returns c = record { is = c.is_less.ensures; real = answer_separated c.args.self c.args.other c.is_less.result c.is_less.ensures }
+pub returns-clause-real : goal.returns-clause-real
+returns-clause-real c =
+    let x = c.args.self in
+    let y = c.args.other in
+    answer_separated x y c.lt.result (c.lt.ensures ∙ order_less x y)
