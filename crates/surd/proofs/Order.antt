@@ -1,9 +1,9 @@
 -- What raises a number a + b√2.
-use Rattle.std.proofs.Common.{◌≡◌, ℕ, ◌+◌, ◌-◌, ◌*◌, ◌<◌, ◌≤◌, true, ⊎_elim, arith}
+use Rattle.std.proofs.Common.{◌≡◌, ℕ, ◌+◌, ◌-◌, ◌<◌, ◌≤◌, true, ⊎_elim, arith}
 use Rattle.std.proofs.lemmas.Bool.{cases_lt, lt-ltb}
 use Rattle.std.proofs.lemmas.Nat.{mul-le}
 use Rattle.surd.specs.declared.Surd.{Surd}
-use Rattle.surd.specs.Surds.{excess, is_below, whole_part, whole_of}
+use Rattle.surd.specs.Surds.{is_below, whole_part, whole_of}
 use Rattle.surd.specs.Squares.{square_zero, square_counts}
 use Rattle.surd.specs.OrderLaws.{Rise, below_from}
 use Rattle.surd.proofs.Roots.{whole_squares}

@@ -134,6 +134,7 @@ order_ties x y = both_ways (x.a == y.a && x.b == y.b) (eq_by_cmp order x y) part
       let same-b = eqb-true x.b y.b equal.1 in
       let same : x ≡ y = λ i. record { a = same-a i; b = same-b i } in
       ap is_eq (subst (λ z. order x z ≡ Equal) same (tied_itself order_total x))
+
   tied : eq_by_cmp order x y ≡ true → (x.a == y.a && x.b == y.b) ≡ true
   tied h =
       let same = subst (λ r. MatchOrdering r (is_below x y ≡ true) (x ≡ y) (is_below y x ≡ true)) ((Equal-is (order x y)).0 h) (ranks x y) in
