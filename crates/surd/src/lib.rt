@@ -33,6 +33,7 @@ impl Surd {
     }
 
     // Whether the number is less than the other.
+    #[tactic(auto, using(crate::proofs::Separation::less_rules))]
     pub fn below(self, other: Surd) -> bool
         ensures is { result ≡ is_below self other }
         ensures real { (result ≡ true) ↔ Separated self other }
