@@ -2,7 +2,7 @@
 #![tactic(auto)]
 
 ghost use Rattle.std.specs.Prelude.{◌≡◌, refl};
-ghost use Rattle.octile.specs.Octile.{WorkedCosts, octile_rates, octile_within};
+ghost use Rattle.octile.specs.Octile.{WorkedCosts, octile_rates, octile_fits};
 ghost use Rattle.octile.specs.OctileLaws.{octile_laws};
 
 use grid::Step;
@@ -18,15 +18,11 @@ const STRAIGHT_LIMIT: u32 = 16_777_216;
 // The largest b that a step may come to.
 const DIAGONAL_LIMIT: u32 = 2_097_152;
 
-// A cost of which neither part is past its limit.
-fn limited(a: u32, b: u32) -> Option<Surd>
-    ensures { result ≡ octile_within a b }
+// Whether neither part of a cost is past its limit.
+fn fits(cost: Surd) -> bool
+    ensures { result ≡ octile_fits cost }
 {
-    if a <= STRAIGHT_LIMIT && b <= DIAGONAL_LIMIT {
-        Some(Surd { a, b })
-    } else {
-        None
-    }
+    cost.a <= STRAIGHT_LIMIT && cost.b <= DIAGONAL_LIMIT
 }
 
 impl Tariff for Octile {
@@ -47,7 +43,7 @@ impl Tariff for Octile {
     }
 
     fn less(a: Surd, b: Surd) -> bool {
-        a.below(b)
+        a < b
     }
 
     fn has(_step: Step) -> bool {
@@ -55,11 +51,13 @@ impl Tariff for Octile {
     }
 
     fn after(cost: Surd, step: Step) -> Option<Surd> {
+        let mut next = cost;
         match step {
-            Step::Straight => limited(cost.a.saturating_add(1), cost.b),
-            Step::Diagonal => limited(cost.a, cost.b.saturating_add(1)),
-            Step::Via => limited(cost.a.saturating_add(8), cost.b),
+            Step::Straight => next.a = next.a.saturating_add(1),
+            Step::Diagonal => next.b = next.b.saturating_add(1),
+            Step::Via => next.a = next.a.saturating_add(8),
         }
+        fits(next).then_some(next)
     }
 
     fn level(cost: Surd) -> u64 {

@@ -2,7 +2,7 @@
 #![tactic(auto)]
 
 ghost use Rattle.std.specs.Prelude.{◌≡◌, refl};
-ghost use Rattle.rectilinear.specs.Rectilinear.{rectilinear_rates, within};
+ghost use Rattle.rectilinear.specs.Rectilinear.{rectilinear_rates};
 ghost use Rattle.rectilinear.specs.RectilinearLaws.{rectilinear_laws};
 
 use grid::Step;
@@ -13,13 +13,6 @@ pub struct Rectilinear;
 
 // The largest cost that a step may come to.
 const LIMIT: u32 = 16_777_216;
-
-// A sum that is not past the limit.
-fn limited(sum: u32) -> Option<u32>
-    ensures { result ≡ within sum }
-{
-    if sum <= LIMIT { Some(sum) } else { None }
-}
 
 impl Tariff for Rectilinear {
     type Cost = u32;
@@ -43,19 +36,17 @@ impl Tariff for Rectilinear {
     }
 
     fn has(step: Step) -> bool {
-        match step {
-            Step::Straight => true,
-            Step::Diagonal => false,
-            Step::Via => true,
-        }
+        step != Step::Diagonal
     }
 
     fn after(cost: u32, step: Step) -> Option<u32> {
-        match step {
-            Step::Straight => limited(cost.saturating_add(1)),
-            Step::Diagonal => None,
-            Step::Via => limited(cost.saturating_add(8)),
-        }
+        let rise = match step {
+            Step::Straight => 1,
+            Step::Diagonal => return None,
+            Step::Via => 8,
+        };
+        let sum = cost.saturating_add(rise);
+        (sum <= LIMIT).then_some(sum)
     }
 
     fn level(cost: u32) -> u64 {
