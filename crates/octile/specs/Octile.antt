@@ -1,14 +1,18 @@
 -- The octile tariff: a cost is a + b√2, a straight step adds 1, a diagonal √2, a via 8.
-use Rattle.std.specs.Prelude.{◌≡◌, ℕ, ◌+◌, true, cond, Some, None, Option, nat_le}
+use Rattle.std.specs.Prelude.{if◌then◌else◌, ◌≡◌, ℕ, ◌+◌, Bool, true, ◌&&◌, Some, None, Option, nat_le}
 use Rattle.grid.specs.declared.step.Step.{Step}
 use Rattle.grid.specs.declared.step.Step.TheVariants.{Straight, Diagonal, Via}
 use Rattle.surd.specs.declared.Surd.{Surd}
 use Rattle.surd.specs.Surds.{surd, is_below, whole_of}
 use Rattle.tariff.specs.Rates.{Rates}
 
+-- neither part is past its limit
+abbrev pub octile_fits : Surd → Bool
+octile_fits c = nat_le c.a 16777216 && nat_le c.b 2097152
+
 -- a cost with a part past its limit is refused
 abbrev pub octile_within : ℕ → ℕ → Option Surd
-octile_within a b = cond (nat_le a 16777216) (cond (nat_le b 2097152) (Some (surd a b)) None) None
+octile_within a b = if octile_fits (surd a b) then Some (surd a b) else None
 
 abbrev pub octile_after : Surd → Step → Option Surd
 octile_after x Straight = octile_within (x.a + 1) x.b

@@ -1,16 +1,17 @@
 -- The octile tariff keeps the laws.
-use Rattle.std.specs.Prelude.{◌≡◌, ℕ, suc, ◌+◌, ◌*◌, ◌<◌, ◌≤◌, Bool, true, false, cond, Some, None, nat_le}
+use Rattle.std.specs.Prelude.{if◌then◌else◌, ◌≡◌, ℕ, suc, ◌+◌, ◌*◌, ◌<◌, ◌≤◌, Bool, true, false, Some, None}
 use Rattle.std.proofs.Common.{sym, ◌∙◌, ap, ⊎_elim, arith}
 use Rattle.std.proofs.lemmas.Bool.{cases_lt, le-leb, true≢false}
 use Rattle.grid.specs.declared.step.Step.{Step}
 use Rattle.grid.specs.declared.step.Step.TheVariants.{Straight, Diagonal, Via}
 use Rattle.surd.specs.declared.Surd.{Surd}
 use Rattle.surd.specs.Surds.{surd, is_below, whole_part, whole_of}
-use Rattle.surd.proofs.Order.{below_irreflexive, below_transitive, below_same, below_more, below_shift, below_whole}
+use Rattle.surd.specs.OrderLaws.{below_irreflexive, below_transitive, below_same}
+use Rattle.surd.proofs.Order.{below_more, below_shift, below_whole}
 use Rattle.surd.proofs.Roots.{whole_step}
 use Rattle.tariff.specs.Rates.{Laws}
 use Rattle.tariff.proofs.Lasting.{lasting}
-use Rattle.octile.specs.Octile.{octile_within, octile_after, octile_rates}
+use Rattle.octile.specs.Octile.{octile_fits, octile_within, octile_after, octile_rates}
 
 -- what a step adds to a, and to b
 straight_part : Step → ℕ
@@ -36,13 +37,11 @@ after_is x Diagonal = let e : x.a ≡ x.a + 0 = omega arith in ap (λ a. octile_
 after_is x Via = let e : x.b ≡ x.b + 0 = omega arith in ap (λ b. octile_within (x.a + 8) b) e
 
 -- what is not refused
-some_of : {X : Type 0} (s r : Bool) (m y : X) → cond s (cond r (Some m) None) None ≡ Some y → y ≡ m
-some_of true true m y h = cc
-some_of true false m y h = cc
-some_of false r m y h = cc
-
 within_is : (a b : ℕ) (y : Surd) → octile_within a b ≡ Some y → y ≡ surd a b
-within_is a b y h = some_of (nat_le a 16777216) (nat_le b 2097152) (surd a b) y h
+within_is a b y h = kept (octile_fits (surd a b)) h where
+  kept : (fits : Bool) → (if fits then Some (surd a b) else None) ≡ Some y → y ≡ surd a b
+  kept true e = cc
+  kept false e = cc
 
 added : (x y : Surd) (k : Step) → octile_after x k ≡ Some y → (y.a ≡ x.a + straight_part k) × (y.b ≡ x.b + diagonal_part k)
 added x y k h =

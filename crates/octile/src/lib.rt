@@ -1,8 +1,8 @@
 // The octile tariff: straight steps, diagonals and vias, in numbers a + b√2.
 #![tactic(auto)]
 
-ghost use Rattle.std.specs.Prelude.{◌≡◌};
-ghost use Rattle.octile.specs.Octile.{WorkedCosts, octile_rates, octile_within};
+ghost use Rattle.std.specs.Prelude.{◌≡◌, refl};
+ghost use Rattle.octile.specs.Octile.{WorkedCosts, octile_rates, octile_fits};
 ghost use Rattle.octile.specs.OctileLaws.{octile_laws};
 
 use grid::Step;
@@ -18,15 +18,11 @@ const STRAIGHT_LIMIT: u32 = 16_777_216;
 // The largest b that a step may come to.
 const DIAGONAL_LIMIT: u32 = 2_097_152;
 
-// A cost of which neither part is past its limit.
-fn limited(a: u32, b: u32) -> Option<Surd>
-    ensures { result ≡ octile_within a b }
+// Whether neither part of a cost is past its limit.
+fn fits(cost: Surd) -> bool
+    ensures { result ≡ octile_fits cost }
 {
-    if a <= STRAIGHT_LIMIT && b <= DIAGONAL_LIMIT {
-        Some(Surd { a, b })
-    } else {
-        None
-    }
+    cost.a <= STRAIGHT_LIMIT && cost.b <= DIAGONAL_LIMIT
 }
 
 impl Tariff for Octile {
@@ -34,16 +30,20 @@ impl Tariff for Octile {
 
     const SPAN: u32 = 8;
 
+    ghost SPAN = { 8 };
+
     ghost rates = { octile_rates };
 
     ghost laws = { octile_laws };
+
+    ghost span_is = { refl };
 
     fn nothing() -> Surd {
         Surd { a: 0, b: 0 }
     }
 
     fn less(a: Surd, b: Surd) -> bool {
-        a.below(b)
+        a < b
     }
 
     fn has(_step: Step) -> bool {
@@ -51,19 +51,17 @@ impl Tariff for Octile {
     }
 
     fn after(cost: Surd, step: Step) -> Option<Surd> {
+        let mut next = cost;
         match step {
-            Step::Straight => limited(cost.a.saturating_add(1), cost.b),
-            Step::Diagonal => limited(cost.a, cost.b.saturating_add(1)),
-            Step::Via => limited(cost.a.saturating_add(8), cost.b),
+            Step::Straight => next.a = next.a.saturating_add(1),
+            Step::Diagonal => next.b = next.b.saturating_add(1),
+            Step::Via => next.a = next.a.saturating_add(8),
         }
+        fits(next).then_some(next)
     }
 
     fn level(cost: Surd) -> u64 {
         cost.whole()
-    }
-
-    fn max_rise() -> u32 {
-        Self::SPAN
     }
 }
 

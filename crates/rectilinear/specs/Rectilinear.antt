@@ -1,12 +1,12 @@
 -- The rectilinear tariff: a cost is one number, a straight step adds 1, a via 8, and there are no diagonals.
-use Rattle.std.specs.Prelude.{ltb, ℕ, ◌+◌, Bool, true, false, cond, Some, None, Option, nat_le}
+use Rattle.std.specs.Prelude.{if◌then◌else◌, ℕ, ◌+◌, Bool, true, false, Some, None, Option, nat_le, nat_lt}
 use Rattle.grid.specs.declared.step.Step.{Step}
 use Rattle.grid.specs.declared.step.Step.TheVariants.{Straight, Diagonal, Via}
 use Rattle.tariff.specs.Rates.{Rates}
 
 -- a sum past 16,777,216 is refused
 abbrev pub within : ℕ → Option ℕ
-within n = cond (nat_le n 16777216) (Some n) None
+within n = if nat_le n 16777216 then Some n else None
 
 -- the steps that there are
 abbrev pub rectilinear_has : Step → Bool
@@ -24,7 +24,7 @@ rectilinear_after c Via = within (c + 8)
 abbrev pub rectilinear_rates : Rates ℕ
 rectilinear_rates = record {
   nothing = 0;
-  less = ltb;
+  less = nat_lt;
   has = rectilinear_has;
   after = rectilinear_after;
   level = λ c. c;

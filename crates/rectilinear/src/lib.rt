@@ -1,8 +1,8 @@
 // The rectilinear tariff: straight steps and vias, no diagonals.
 #![tactic(auto)]
 
-ghost use Rattle.std.specs.Prelude.{◌≡◌};
-ghost use Rattle.rectilinear.specs.Rectilinear.{rectilinear_rates, within};
+ghost use Rattle.std.specs.Prelude.{◌≡◌, refl};
+ghost use Rattle.rectilinear.specs.Rectilinear.{rectilinear_rates};
 ghost use Rattle.rectilinear.specs.RectilinearLaws.{rectilinear_laws};
 
 use grid::Step;
@@ -14,21 +14,18 @@ pub struct Rectilinear;
 // The largest cost that a step may come to.
 const LIMIT: u32 = 16_777_216;
 
-// A sum that is not past the limit.
-fn limited(sum: u32) -> Option<u32>
-    ensures { result ≡ within sum }
-{
-    if sum <= LIMIT { Some(sum) } else { None }
-}
-
 impl Tariff for Rectilinear {
     type Cost = u32;
 
     const SPAN: u32 = 8;
 
+    ghost SPAN = { 8 };
+
     ghost rates = { rectilinear_rates };
 
     ghost laws = { rectilinear_laws };
+
+    ghost span_is = { refl };
 
     fn nothing() -> u32 {
         0
@@ -39,26 +36,20 @@ impl Tariff for Rectilinear {
     }
 
     fn has(step: Step) -> bool {
-        match step {
-            Step::Straight => true,
-            Step::Diagonal => false,
-            Step::Via => true,
-        }
+        step != Step::Diagonal
     }
 
     fn after(cost: u32, step: Step) -> Option<u32> {
-        match step {
-            Step::Straight => limited(cost.saturating_add(1)),
-            Step::Diagonal => None,
-            Step::Via => limited(cost.saturating_add(8)),
-        }
+        let rise = match step {
+            Step::Straight => 1,
+            Step::Diagonal => return None,
+            Step::Via => 8,
+        };
+        let sum = cost.saturating_add(rise);
+        (sum <= LIMIT).then_some(sum)
     }
 
     fn level(cost: u32) -> u64 {
         u64::from(cost)
-    }
-
-    fn max_rise() -> u32 {
-        Self::SPAN
     }
 }

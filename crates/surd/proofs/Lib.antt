@@ -1,4 +1,3 @@
-pub mod Squares
 pub mod Roots
 pub mod Order
 pub mod Separation

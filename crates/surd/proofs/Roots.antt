@@ -1,13 +1,13 @@
 -- The whole part of b√2.
-use Rattle.std.proofs.Common.{◌≡◌, ℕ, zero, suc, ◌+◌, ◌*◌, ◌<◌, ◌≤◌, Bool, true, false, leb, refl, arith}
+use Rattle.std.proofs.Common.{if◌then◌else◌, ◌≡◌, ℕ, zero, suc, ◌+◌, ◌*◌, ◌<◌, ◌≤◌, Bool, true, false, nat_le, refl, arith}
 use Rattle.std.proofs.lemmas.Bool.{leb-true, leb-false}
 use Rattle.surd.specs.Surds.{root_up_to, whole_part}
-use Rattle.surd.proofs.Squares.{square_sum, square_double, square_le, square_lt}
+use Rattle.surd.specs.Squares.{square_sum, square_double, square_le, square_lt}
 
 -- one step of the recursion
-step_down : (c : Bool) (m t r : ℕ) → leb (suc t * suc t) m ≡ c → m < (suc t + 1) * (suc t + 1) →
+step_down : (c : Bool) (m t r : ℕ) → nat_le (suc t * suc t) m ≡ c → m < (suc t + 1) * (suc t + 1) →
     (m < (t + 1) * (t + 1) → (r * r ≤ m) × (m < (r + 1) * (r + 1))) →
-    let s : ℕ = elim c [ true ↦ suc t | false ↦ r ] in (s * s ≤ m) × (m < (s + 1) * (s + 1))
+    let s : ℕ = if c then suc t else r in (s * s ≤ m) × (m < (s + 1) * (s + 1))
 step_down true m t r e high rest = (leb-true _ m e, high)
 step_down false m t r e high rest = rest (let k = leb-false (suc t * suc t) m e in let f : suc t ≡ t + 1 = omega arith in rw f at k)
 

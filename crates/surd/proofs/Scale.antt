@@ -3,7 +3,7 @@ use Rattle.std.proofs.Common.{◌≡◌, ℕ, ◌+◌, ◌*◌, ◌/◌, ◌%◌
 use Rattle.std.proofs.lemmas.Bool.{cases_lt, cases_eq}
 use Rattle.std.proofs.lemmas.Nat.{mul-le, div-add-mod', mod_below}
 use Rattle.surd.specs.Surds.{whole_part}
-use Rattle.surd.proofs.Squares.{square_sum, square_product, square_zero, square_counts, no_twice}
+use Rattle.surd.specs.Squares.{square_sum, square_product, square_zero, square_counts, no_twice}
 use Rattle.surd.proofs.Roots.{whole_only}
 
 -- c is the whole part of D times √2, and b is small beside D

@@ -1,12 +1,13 @@
 -- The order in whole numbers is the order of a + b√2.
-use Rattle.std.proofs.Common.{◌≡◌, ℕ, ◌+◌, ◌-◌, ◌*◌, ◌<◌, ◌≤◌, Bool, true, ◌⊎◌, ◌↔◌, sym, ap, ◌∙◌, inl, inr, ⊎_elim, mul_assoc, mul_comm, add-mul, mul-pos, mul-add, mul_left_comm, arith}
+use Rattle.std.proofs.Common.{◌≡◌, ℕ, ◌+◌, ◌-◌, ◌*◌, ◌<◌, ◌≤◌, true, ◌⊎◌, ◌↔◌, sym, ap, ◌∙◌, inl, inr, ⊎_elim, mul_assoc, mul_comm, add-mul, mul-pos, mul-add, mul_left_comm, arith}
 use native.Mathlib.Nat.{mul-lt-mul_of_pos_left}
 use Rattle.std.proofs.lemmas.Bool.{cases_lt, cases_Bool, ltb-true, ltb-false}
 use Rattle.std.proofs.lemmas.Nat.{mul-le}
+use Rattle.std.specs.Ordering.{is_lt}
 use Rattle.surd.specs.declared.Surd.{Surd}
-use Rattle.surd.specs.Surds.{excess, is_below, at, Separated}
-use Rattle.surd.proofs.Squares.{square_sum, square_product, square_double, square_zero, square_counts, square_le, square_lt}
-use Rattle.surd.proofs.Order.{fall_in_a, fall_in_b}
+use Rattle.surd.specs.Surds.{excess, is_below, order, at, Separated}
+use Rattle.surd.specs.Squares.{square_sum, square_product, square_double, square_zero, square_counts, square_le, square_lt}
+use Rattle.surd.specs.OrderLaws.{fall_in_a, fall_in_b, order_less}
 
 -- q times what x has more than y where √2 is taken as p/q, part by part
 abbrev gap : Surd → Surd → ℕ → ℕ → ℕ
@@ -150,6 +151,11 @@ to_separated x y below =
 pub below_separated : (x y : Surd) → (is_below x y ≡ true) ↔ Separated x y
 below_separated x y = (to_separated x y, from_separated x y)
 
--- the same of an answer that is the order's
-pub answer_separated : (x y : Surd) (r : Bool) → r ≡ is_below x y → (r ≡ true) ↔ Separated x y
-answer_separated x y r e = rw e (below_separated x y)
+-- the same of what `<` answers
+pub less_to_separated : (x y : Surd) → is_lt (order x y) ≡ true → Separated x y
+less_to_separated x y e = to_separated x y (rw (order_less x y) at e)
+
+pub less_from_separated : (x y : Surd) → Separated x y → is_lt (order x y) ≡ true
+less_from_separated x y s = rw (order_less x y) (from_separated x y s)
+
+pub ruleset less_rules = (less_to_separated, less_from_separated)

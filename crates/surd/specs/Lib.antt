@@ -1,1 +1,3 @@
 pub mod Surds
+pub mod Squares
+pub mod OrderLaws

@@ -1,5 +1,7 @@
 -- The numbers a + b√2.
-use Rattle.std.specs.Prelude.{◌≡◌, ℕ, zero, suc, ◌+◌, ◌-◌, ◌*◌, ◌<◌, Bool, true, false, List, ◌++◌, length, codes, decimal, nat_le, nat_lt, slice_index}
+use Rattle.std.specs.Prelude.{if◌then◌else◌, ◌≡◌, ℕ, zero, suc, ◌+◌, ◌-◌, ◌*◌, ◌<◌, Bool, List, ◌++◌, length, codes, decimal, nat_le, nat_lt, slice_index}
+use Rattle.std.specs.Ordering.{nat_cmp}
+use Rattle.std.specs.declared.cmp.Ordering.{Ordering}
 use Rattle.surd.specs.declared.Surd.{Surd}
 
 -- a + b√2
@@ -14,6 +16,10 @@ excess x y = (x.a - y.a) * (x.a - y.a) + 2 * ((x.b - y.b) * (x.b - y.b))
 -- twice that of the difference in b
 abbrev pub is_below : Surd → Surd → Bool
 is_below x y = nat_lt (excess x y) (excess y x)
+
+-- the same as an answer of three: the number that exceeds the other by more is the greater
+abbrev pub order : Surd → Surd → Ordering
+order x y = nat_cmp (excess x y) (excess y x)
 
 -- q times what x comes to, where the fraction p/q is taken for √2
 abbrev pub at : Surd → ℕ → ℕ → ℕ
@@ -37,7 +43,7 @@ pub record Separated (x y : Surd) : Type 0 where
 -- the greatest t up to the second number with t² ≤ m
 unfoldable pub root_up_to : ℕ → ℕ → ℕ
 root_up_to m zero = 0
-root_up_to m (suc t) = elim (nat_le (suc t * suc t) m) [ true ↦ suc t | false ↦ root_up_to m t ]
+root_up_to m (suc t) = if nat_le (suc t * suc t) m then suc t else root_up_to m t
 
 -- the whole part of b√2: the greatest t with t² ≤ 2b², and no such t is past 2b
 unfoldable pub whole_part : ℕ → ℕ

@@ -63,19 +63,10 @@ static WHOLE_PARTS: [u16; 1024] = [
     1443, 1445, 1446,
 ];
 
-// The entry at b of a table of whole parts.
-fn entry(table: &[u16], b: u32) -> u64
-    requires rule { WholeParts table.now }
-    requires within { b < length table.now }
-    ensures { result ≡ whole_part b }
-{
-    u64::from(table[b as usize])
-}
-
 // The whole part of b√2, from the table.
 pub(crate) fn tabled(b: u32) -> u64
     requires { b < 1024 }
     ensures { result ≡ whole_part b }
 {
-    entry(&WHOLE_PARTS, b)
+    u64::from(WHOLE_PARTS[b as usize])
 }

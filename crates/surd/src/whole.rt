@@ -7,8 +7,8 @@ use crate::table::tabled;
 // The whole parts of b√2 for b below this stand in a table.
 const TABLED: u32 = 1024;
 
-// 2^66. The fraction ROOT_TWO / SCALE is so near to √2 that it gives the whole part of b√2 for each b of 32 bits.
-const SCALE: u128 = 73786976294838206464;
+// The fraction ROOT_TWO / SCALE is so near to √2 that it gives the whole part of b√2 for each b of 32 bits.
+const SCALE: u128 = 1 << 66;
 
 // The whole part of SCALE times √2.
 const ROOT_TWO: u128 = 104350542602662257698;

@@ -1,7 +1,7 @@
 // What a path costs: the interface of all tariffs, with its laws.
 #![tactic(auto)]
 
-ghost use Rattle.std.specs.Prelude.{◌≡◌};
+ghost use Rattle.std.specs.Prelude.{◌≡◌, ℕ};
 ghost use Rattle.tariff.specs.Rates.{Rates, Laws};
 
 use grid::Step;
@@ -13,6 +13,9 @@ pub trait Tariff {
 
     // The largest rise of the level by one step, or 0 where costs have no levels.
     const SPAN: u32;
+
+    // The same number, for contracts.
+    ghost SPAN: { ℕ };
 
     // The cost nothing, the order, the steps that the tariff has, what each makes of a cost, the level and the span.
     ghost rates: { Rates (Self.Cost) };
@@ -37,10 +40,16 @@ pub trait Tariff {
     fn level(cost: Self::Cost) -> u64
         ensures { result ≡ rates.level cost };
 
-    // SPAN again, as a call that contracts can speak of.
-    fn max_rise() -> u32
-        ensures { result ≡ rates.span };
-
     // What generic code may count on.
     ghost laws: { Laws rates };
+
+    // SPAN is the span of the rates.
+    ghost span_is: { SPAN ≡ rates.span };
+
+    // SPAN again, as a call.
+    final fn max_rise() -> u32
+        ensures { result ≡ rates.span }
+    {
+        Self::SPAN
+    }
 }

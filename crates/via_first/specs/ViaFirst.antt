@@ -1,5 +1,5 @@
 -- The via-first tariff: the number of vias decides, then the a + b√2 of the other steps.
-use Rattle.std.specs.Prelude.{◌≡◌, ℕ, ◌+◌, ◌<◌, Bool, true, cond, ◌&&◌, ◌||◌, ◌⊎◌, List, ◌++◌, Some, None, codes, decimal, Option, ◌==◌, nat_le, nat_lt}
+use Rattle.std.specs.Prelude.{if◌then◌else◌, ◌≡◌, ℕ, ◌+◌, ◌<◌, Bool, true, ◌&&◌, ◌||◌, ◌⊎◌, List, ◌++◌, Some, None, codes, decimal, Option, ◌==◌, nat_le, nat_lt}
 use Rattle.grid.specs.declared.step.Step.{Step}
 use Rattle.grid.specs.declared.step.Step.TheVariants.{Straight, Diagonal, Via}
 use Rattle.surd.specs.Surds.{surd, is_below, Separated}
@@ -24,7 +24,7 @@ counts_fit c = nat_le c.vias 2097152 && (nat_le c.rest.a 2097152 && nat_le c.res
 
 -- a cost with a count past its limit is refused
 abbrev pub via_first_within : ViaFirstCost → Option ViaFirstCost
-via_first_within c = cond (counts_fit c) (Some c) None
+via_first_within c = if counts_fit c then Some c else None
 
 -- a step counts 1: a straight step in a, a diagonal in b, a via among the vias
 abbrev pub via_first_next : ViaFirstCost → Step → ViaFirstCost

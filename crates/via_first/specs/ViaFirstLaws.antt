@@ -1,12 +1,13 @@
 -- The via-first tariff keeps the laws.
-use Rattle.std.specs.Prelude.{◌≡◌, ℕ, suc, ◌<◌, ◌≤◌, Bool, true, false, cond, ◌⊎◌, Some, None, Decides, refl}
+use Rattle.std.specs.Prelude.{if◌then◌else◌, ◌≡◌, ℕ, suc, ◌<◌, ◌≤◌, Bool, true, false, ◌⊎◌, Some, None, Decides, refl}
 use Rattle.std.proofs.Common.{sym, ◌∙◌, inl, inr, ⊎_elim, arith}
 use Rattle.std.proofs.lemmas.Bool.{cases_order, cases_Bool}
 use Rattle.std.proofs.lemmas.Bool.Decides.{nat_tests, Decides-and, Decides-eqb, Decides-ltb, Decides-or, not_from_Decides}
 use Rattle.grid.specs.declared.step.Step.{Step}
 use Rattle.grid.specs.declared.step.Step.TheVariants.{Straight, Diagonal, Via}
 use Rattle.surd.specs.Surds.{is_below}
-use Rattle.surd.proofs.Order.{below_irreflexive, below_transitive, below_same, below_more, below_shift}
+use Rattle.surd.specs.OrderLaws.{below_irreflexive, below_transitive, below_same}
+use Rattle.surd.proofs.Order.{below_more, below_shift}
 use Rattle.tariff.specs.Rates.{Laws}
 use Rattle.tariff.proofs.Lasting.{lasting}
 use Rattle.via_first.specs.declared.ViaFirstCost.{ViaFirstCost}
@@ -57,7 +58,7 @@ next_keeps x y Via (inr l) = inr (omega (arith, l.0), l.1)
 -- a cost that is not refused stays what it is
 some_within : (c d : ViaFirstCost) → via_first_within c ≡ Some d → d ≡ c
 some_within c d h = kept (counts_fit c) h where
-  kept : (b : Bool) → cond b (Some c) None ≡ Some d → d ≡ c
+  kept : (fits : Bool) → (if fits then Some c else None) ≡ Some d → d ≡ c
   kept true e = cc
   kept false e = cc
 

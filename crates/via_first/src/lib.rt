@@ -1,8 +1,8 @@
 // The via-first tariff: the path with the fewest vias, and among those the shortest.
 #![tactic(auto)]
 
-ghost use Rattle.std.specs.Prelude.{◌≡◌, true, ◌↔◌, Some};
-ghost use Rattle.via_first.specs.ViaFirst.{FewerViasOrShorter, via_first_cost, via_first_rates, via_first_text, via_first_within};
+ghost use Rattle.std.specs.Prelude.{◌≡◌, true, ◌↔◌, Some, refl};
+ghost use Rattle.via_first.specs.ViaFirst.{FewerViasOrShorter, counts_fit, via_first_rates, via_first_text};
 ghost use Rattle.via_first.specs.ViaFirstLaws.{via_first_laws};
 
 use grid::Step;
@@ -11,7 +11,7 @@ use surd::Surd;
 use tariff::Tariff;
 
 // The number of vias, and the a + b√2 of the other steps: 1 for a straight step and √2 for a diagonal.
-#[derive(Clone, Copy, PartialEq, Eq, Debug)]
+#[derive(Clone, Copy, PartialEq, Eq, PartialOrd, Ord, Debug)]
 pub struct ViaFirstCost {
     pub vias: u32,
     pub rest: Surd,
@@ -34,18 +34,11 @@ pub struct ViaFirst;
 // The largest count that a step may come to.
 const LIMIT: u32 = 2_097_152;
 
-// A cost of which no count is past the limit.
-fn limited(vias: u32, a: u32, b: u32) -> Option<ViaFirstCost>
-    ensures { result ≡ via_first_within (via_first_cost vias a b) }
+// Whether no count of a cost is past the limit.
+fn fits(cost: ViaFirstCost) -> bool
+    ensures { result ≡ counts_fit cost }
 {
-    if vias <= LIMIT && a <= LIMIT && b <= LIMIT {
-        Some(ViaFirstCost {
-            vias,
-            rest: Surd { a, b },
-        })
-    } else {
-        None
-    }
+    cost.vias <= LIMIT && cost.rest.a <= LIMIT && cost.rest.b <= LIMIT
 }
 
 impl Tariff for ViaFirst {
@@ -53,9 +46,13 @@ impl Tariff for ViaFirst {
 
     const SPAN: u32 = 0;
 
+    ghost SPAN = { 0 };
+
     ghost rates = { via_first_rates };
 
     ghost laws = { via_first_laws };
+
+    ghost span_is = { refl };
 
     fn nothing() -> ViaFirstCost {
         ViaFirstCost {
@@ -64,11 +61,12 @@ impl Tariff for ViaFirst {
         }
     }
 
+    #[tactic(auto, using(crate::proofs::Ordered::less_rules))]
     fn less(a: ViaFirstCost, b: ViaFirstCost) -> bool
         ensures is { result ≡ via_first_rates.less a b }
         ensures ordered { (result ≡ true) ↔ FewerViasOrShorter a b }
     {
-        a.vias < b.vias || a.vias == b.vias && a.rest.below(b.rest)
+        a < b
     }
 
     fn has(_step: Step) -> bool {
@@ -76,20 +74,16 @@ impl Tariff for ViaFirst {
     }
 
     fn after(cost: ViaFirstCost, step: Step) -> Option<ViaFirstCost> {
-        let vias = cost.vias;
-        let Surd { a, b } = cost.rest;
+        let mut next = cost;
         match step {
-            Step::Straight => limited(vias, a.saturating_add(1), b),
-            Step::Diagonal => limited(vias, a, b.saturating_add(1)),
-            Step::Via => limited(vias.saturating_add(1), a, b),
+            Step::Straight => next.rest.a = next.rest.a.saturating_add(1),
+            Step::Diagonal => next.rest.b = next.rest.b.saturating_add(1),
+            Step::Via => next.vias = next.vias.saturating_add(1),
         }
+        fits(next).then_some(next)
     }
 
     fn level(_cost: ViaFirstCost) -> u64 {
         0
-    }
-
-    fn max_rise() -> u32 {
-        Self::SPAN
     }
 }
