@@ -6,6 +6,10 @@ ghost use Rattle.model.specs.Sheets.{Ground as GroundMeaning, Sound, Metal, Held
 
 use grid::{Shape, SheetFault};
 
+pub mod questions;
+
+pub use questions::{check_entries, check_net, check_open, check_place};
+
 // A ground has a shape and says of each place and net whether the place is open to the net. Nets are 1 to 65,534.
 // Asking changes nothing.
 pub trait Ground {
