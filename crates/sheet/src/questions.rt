@@ -7,11 +7,18 @@ ghost use Rattle.model.specs.Sheets.{answered, ask, is_net};
 use super::{Ground, Sheet};
 use grid::{Shape, SheetFault};
 
-// Asks whether the number is a net's, 1 to 65,534 (4).
+// Whether a number is a net's, 1 to 65,534.
+pub fn is_net(net: u16) -> bool
+    ensures { result ≡ is_net net }
+{
+    (1..=65534).contains(&net)
+}
+
+// Asks whether the number is a net's (4).
 pub fn check_net(net: u16) -> Result<(), SheetFault>
     ensures { answered result ≡ ask (is_net net) (refusal 4 net) (Ok tt) }
 {
-    if (1..=65534).contains(&net) {
+    if is_net(net) {
         Ok(())
     } else {
         Err(SheetFault::NoNet(u32::from(net)))
