@@ -3,10 +3,17 @@
 
 ghost use Rattle.std.specs.Prelude.{◌≡◌, Ok};
 ghost use Rattle.model.specs.Paths.{cover_answer, Coverable, CoverIsExact, Covered, Covers};
-ghost use Rattle.model.specs.Sheets.{answered};
+ghost use Rattle.model.specs.Sheets.{answered, bare_at};
 
 use grid::SheetFault;
 use sheet::{Ground, Sheet, check_net, check_open, check_place, is_bare};
+
+// How many bare places there are to cover at one place: 1 or none.
+fn bare_at<S: Sheet>(sheet: &S, place: u32) -> u32
+    ensures { result ≡ bare_at (S.board sheet.now) place }
+{
+    u32::from(is_bare(sheet, place))
+}
 
 // Whether all places of a path can be laid for a net. Asks whether the net is one (4), then of each place in the order of
 // the path whether it is in the shape (3) and open to the net (5), and last whether the spare covers the bare ones (6).
@@ -19,7 +26,7 @@ fn ask<S: Sheet>(sheet: &S, path: &[u32], net: u16) -> Result<(), SheetFault>
     for place in path {
         check_place(shape, *place)?;
         check_open(sheet, *place, net)?;
-        bare = bare.saturating_add(u32::from(is_bare(sheet, *place)));
+        bare = bare.saturating_add(bare_at(sheet, *place));
     }
     if !sheet.spares(bare) {
         return Err(SheetFault::NoSpare(bare));
