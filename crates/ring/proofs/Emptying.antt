@@ -2,7 +2,8 @@
 use Rattle.std.proofs.Common.{◌≡◌, ℕ, ◌≤◌, length, get_or, None, sym, ap, ◌∙◌, subst, arith}
 use Rattle.tariff.specs.Rates.{Rates}
 use Rattle.rows.specs.Waiting.{layout, awaits}
-use Rattle.rows.specs.Rows.{room, Sound}
+use Rattle.front.specs.Places.{room}
+use Rattle.rows.specs.Rows.{Sound}
 use Rattle.rows.proofs.Keeping.{none_awaits, no_heads, empty_sound}
 use Rattle.ring.specs.declared.Ring.{Ring}
 use Rattle.ring.specs.Rings.{view_of, InOrder, Emptied}

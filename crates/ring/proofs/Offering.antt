@@ -3,7 +3,7 @@ use Rattle.std.proofs.Common.{◌≡◌, ℕ, true, false, Some, None, Option, s
 use Rattle.std.proofs.lemmas.Bool.{cases_eq, cond-true, cond-false, both_ways}
 use Rattle.tariff.specs.Rates.{Rates}
 use Rattle.front.specs.Queue.{Queue, smaller}
-use Rattle.rows.proofs.Changes.{changed_at, changed_off}
+use Rattle.front.proofs.Changes.{changed_at, changed_off}
 use Rattle.ring.specs.Rings.{Waits, Offers, lower}
 
 module _ {C : Type 0} where

@@ -3,7 +3,7 @@ use Rattle.std.proofs.Common.{◌≡◌, ℕ, ◌%◌, ◌≤◌, get_or, Some, 
 use Rattle.std.proofs.lemmas.Bool.{cases_eq}
 use Rattle.tariff.specs.Rates.{Rates}
 use Rattle.rows.specs.Rows.{base, Fits, First, Ordered}
-use Rattle.rows.proofs.Changes.{none_some}
+use Rattle.front.proofs.Changes.{none_some}
 use Rattle.rows.proofs.Keeping.{first_least, moved_on}
 use Rattle.ring.specs.declared.Ring.{Ring}
 use Rattle.ring.specs.Rings.{view_of, InOrder, Waits}

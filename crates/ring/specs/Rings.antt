@@ -3,7 +3,7 @@ use Rattle.std.specs.Prelude.{◌≡◌, ℕ, ◌+◌, ◌%◌, ◌<◌, Bool, t
 use Rattle.tariff.specs.Rates.{Rates}
 use Rattle.front.specs.Queue.{Queue, smaller}
 use Rattle.rows.specs.Waiting.{ringed}
-use Rattle.rows.specs.Links.{changed}
+use Rattle.front.specs.Places.{changed}
 use Rattle.rows.specs.Rows.{First, Ordered}
 use Rattle.ring.specs.declared.turning.Bucket.{Bucket}
 use Rattle.ring.specs.declared.Ring.{Ring}

@@ -1,6 +1,7 @@
 use Rattle.std.proofs.Common.{◌≡◌, ℕ, ◌-◌, length, get_or, set, None, sym, refl, ap, subst, arith, rules}
 use Rattle.rows.specs.Waiting.{layout}
-use Rattle.rows.specs.Rows.{room, Ordered}
+use Rattle.front.specs.Places.{room}
+use Rattle.rows.specs.Rows.{Ordered}
 use Rattle.rows.proofs.Keeping.{filed_inside, next_inside, back_inside}
 use Rattle.rows.proofs.Filing.{left_awaits, left_ordered}
 use Rattle.ring.proofs.filing.leave.Goals as goal

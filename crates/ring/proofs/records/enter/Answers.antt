@@ -2,7 +2,8 @@ use Rattle.std.proofs.Common.{◌≡◌, ℕ, ◌+◌, ◌<◌, length, sym, ap,
 use Rattle.rows.specs.declared.RingRecord.{RingRecord}
 use Rattle.rows.specs.Waiting.{layout}
 use Rattle.rows.specs.Links.{seated}
-use Rattle.rows.specs.Rows.{room, Entered}
+use Rattle.front.specs.Places.{room}
+use Rattle.rows.specs.Rows.{Entered}
 use Rattle.rows.proofs.Vouching.{has_room, entered_known, entered_new}
 use Rattle.ring.proofs.records.enter.Goals as goal
 
