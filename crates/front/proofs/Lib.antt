@@ -1,2 +1,5 @@
+pub mod Changes
 pub mod Costs
 pub mod Counting
+pub mod Numbers
+pub mod Offers

@@ -3,7 +3,8 @@ use Rattle.std.specs.Prelude.{ℕ, ◌-◌, true, List, length, None, Option}
 use Rattle.tariff.specs.Rates.{Rates}
 use Rattle.front.specs.Queue.{Queue}
 use Rattle.sift.specs.declared.record.HeapRecord.{HeapRecord}
-use Rattle.sift.specs.Layouts.{layout, room, wait_cost, Heaped}
+use Rattle.front.specs.Places.{room}
+use Rattle.sift.specs.Layouts.{layout, wait_cost, Heaped}
 
 -- the queue in a list of which the positions 1 to count are in use: every tariff is served, and a place fewer than there are records
 abbrev pub heap_queue : {C : Type 0} → List (HeapRecord C) → ℕ → Option C → Queue C

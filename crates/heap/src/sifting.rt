@@ -1,7 +1,8 @@
 // Places that are sifted up and down. A place is not exchanged with the next one: the others move through the hole that it
 // is to fill, one at each level.
 ghost use Rattle.std.specs.Prelude.{◌≡◌, ◌+◌, ◌*◌, ◌/◌, ◌<◌, ◌≤◌, length, Some};
-ghost use Rattle.sift.specs.Layouts.{layout, room, filled, key, HoleUp, HoleDown, Sifted, Vacant, below_parent, least_child, lower_child};
+ghost use Rattle.front.specs.Places.{room};
+ghost use Rattle.sift.specs.Layouts.{layout, filled, key, HoleUp, HoleDown, Sifted, Vacant, below_parent, least_child, lower_child};
 
 use super::records::{cost_of, link, slot_at};
 use sift::HeapRecord;

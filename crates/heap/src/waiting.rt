@@ -1,7 +1,8 @@
 // Places are inserted, wait at a smaller cost, and are removed.
 ghost use Rattle.std.specs.Prelude.{◌≡◌, ◌+◌, ◌-◌, ◌<◌, ◌≤◌, true, false, length, Some};
 ghost use Rattle.front.specs.Queue.{offer, smaller};
-ghost use Rattle.sift.specs.Layouts.{layout, room, waits, wait_cost, lower, Heaped, WaitsAt, WaitsAlone, WaitsNoMore, LeastWaits};
+ghost use Rattle.front.specs.Places.{room};
+ghost use Rattle.sift.specs.Layouts.{layout, waits, wait_cost, lower, Heaped, WaitsAt, WaitsAlone, WaitsNoMore, LeastWaits};
 
 use super::records::{cost_of, position_of, set_cost, slot_at};
 use super::sifting::{key_at, sift_down, sift_up};

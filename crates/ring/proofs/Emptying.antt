@@ -1,16 +1,14 @@
--- A ring where no place waits.
+-- A ring where no place waits is in order.
 use Rattle.std.proofs.Common.{◌≡◌, ℕ, ◌≤◌, length, get_or, None, sym, ap, ◌∙◌, subst, arith}
 use Rattle.tariff.specs.Rates.{Rates}
-use Rattle.rows.specs.Waiting.{layout, awaits}
-use Rattle.rows.specs.Rows.{room, Sound}
-use Rattle.rows.proofs.Keeping.{none_awaits, no_heads, empty_sound}
+use Rattle.rows.specs.Waiting.{layout}
+use Rattle.front.specs.Places.{room}
+use Rattle.rows.specs.Rows.{Sound}
+use Rattle.rows.proofs.Keeping.{no_heads, empty_sound}
 use Rattle.ring.specs.declared.Ring.{Ring}
-use Rattle.ring.specs.Rings.{view_of, InOrder, Emptied}
+use Rattle.ring.specs.Rings.{InOrder, Emptied}
 
 module _ {C : Type 0} (s : Ring C) (rows : ℕ) (e : Emptied s rows) where
-  pub none_waits : (k : ℕ) → (view_of s).waiting k ≡ None
-  none_waits k = ap (λ z. awaits (layout s.list.now) z k) e.touched ∙ none_awaits (layout s.list.now) k
-
   pub in_order : 1 ≤ rows → rows ≤ 32 → (t : Rates C) → InOrder t s
   in_order some most t =
       let h = layout s.list.now in

@@ -1,3 +1,3 @@
-pub mod Offering
-pub mod Taking
 pub mod Emptying
+pub mod Rounds
+pub mod Taking

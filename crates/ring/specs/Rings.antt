@@ -1,9 +1,8 @@
 -- The row that a ring takes from, and the order of a ring.
 use Rattle.std.specs.Prelude.{◌≡◌, ℕ, ◌+◌, ◌%◌, ◌<◌, Bool, true, replicate, Some, None, Option}
 use Rattle.tariff.specs.Rates.{Rates}
-use Rattle.front.specs.Queue.{Queue, smaller}
+use Rattle.front.specs.Queue.{Queue}
 use Rattle.rows.specs.Waiting.{ringed}
-use Rattle.rows.specs.Links.{changed}
 use Rattle.rows.specs.Rows.{First, Ordered}
 use Rattle.ring.specs.declared.turning.Bucket.{Bucket}
 use Rattle.ring.specs.declared.Ring.{Ring}
@@ -27,18 +26,3 @@ pub record Emptied {C : Type 0} (s : Ring C) (rows : ℕ) : Type 0 where
   pub rows_are : s.rows ≡ rows
   pub heads : s.heads ≡ replicate 32 None
   pub last : s.last ≡ None
-
--- the place p waits at c, or not where there is no c, and nothing else changes
-pub record Waits {C : Type 0} (q q' : Queue C) (p : ℕ) (c : Option C) : Type 0 where
-  pub waiting : (k : ℕ) → q'.waiting k ≡ changed q.waiting p c k
-  pub last : q'.last ≡ q.last
-  pub served : q'.served ≡ q.served
-
--- whether a cost is less than the one at which a place waits, if it does
-abbrev pub lower : {C : Type 0} → Rates C → C → Option C → Bool
-lower t c None = true
-lower t c (Some d) = t.less c d
-
--- the place p waits at the smaller of c and any cost at which it waited
-abbrev pub Offers : {C : Type 0} → Rates C → Queue C → Queue C → ℕ → C → Type 0
-Offers t q q' p c = Waits q q' p (Some (smaller t (q.waiting p) c))

@@ -9,13 +9,11 @@ mod filing;
 mod records;
 mod turning;
 
-use filing::{clear, empty, join, leave, offer};
 use front::{Front, Taken};
 use grid::Step;
-use records::waiting_at;
 pub use rows::RingRecord;
 use tariff::Tariff;
-use turning::{base_row, first_row, has_rows, row_count};
+use turning::{has_rows, row_count};
 
 // The places that wait, in a list that is lent. Each is filed in one of span + 1 rows, by the level of its cost modulo their
 // number: the levels of all that wait lie between the level taken last and that plus the span, so a row has one level only.
@@ -45,7 +43,20 @@ impl<'a, C: Copy> Ring<'a, C> {
         ensures list { result.list.now ≡ list.old }
         ensures lent { result.list.ghost_name ≡ list.entry.ghost_name }
     {
-        empty(list)
+        Ring {
+            list,
+            touched: 0,
+            rows: 1,
+            heads: [None; 32],
+            last: None,
+        }
+    }
+
+    // How many places are served.
+    fn capacity(&self) -> usize
+        ensures { result ≡ (view_of self.now).served }
+    {
+        self.list.len().saturating_sub(1)
     }
 }
 
@@ -55,51 +66,34 @@ impl<'a, T: Tariff> Front<T> for Ring<'a, T::Cost> {
     ghost ordered = { InOrder T.Tariff.rates };
 
     fn serves(&self, places: u32) -> bool {
-        has_rows(T::max_rise()) && places as usize <= self.list.len().saturating_sub(1)
+        has_rows(T::max_rise()) && places as usize <= self.capacity()
     }
 
     fn start(&mut self, place: u32) -> bool {
         let span = T::max_rise();
-        if !has_rows(span) {
+        if !has_rows(span) || place as usize >= self.capacity() {
             return false;
         }
-        if place as usize + 1 >= self.list.len() {
-            return false;
-        }
-        clear(self, row_count(span));
-        join::<T>(self, place, T::nothing());
+        self.clear(row_count(span));
+        self.join::<T>(place, T::nothing());
         true
     }
 
     fn put(&mut self, place: u32, step: Step) -> bool {
-        if place as usize + 1 >= self.list.len() {
+        if place as usize >= self.capacity() {
             return false;
         }
-        let Some(from) = self.last else {
+        let Some(cost) = self.last.and_then(|last| T::after(last, step)) else {
             return false;
         };
-        if !T::has(step) {
-            return false;
-        }
-        let Some(cost) = T::after(from, step) else {
-            return false;
-        };
-        offer::<T>(self, place, cost);
+        self.offer::<T>(place, cost);
         true
     }
 
     fn take(&mut self) -> Option<Taken<T::Cost>> {
-        let rows = self.rows;
-        let from = base_row::<T>(self.last, rows);
-        let Some(first) = first_row(&self.heads, rows as usize, from) else {
-            return None;
-        };
-        let touched = self.touched;
-        let list = &mut *self.list;
-        let Some(cost) = waiting_at(list, touched, first.head) else {
-            unreachable()
-        };
-        leave::<T>(self, first.row, first.head);
+        let first = self.first_row::<T>()?;
+        let cost = self.waiting_at(first.head).unwrap();
+        self.leave::<T>(first.row, first.head);
         self.last = Some(cost);
         Some(Taken {
             place: first.head,

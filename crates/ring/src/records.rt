@@ -1,35 +1,20 @@
 // What a ring does to its records.
 ghost use Rattle.std.specs.Prelude.{◌≡◌, ℕ, ◌+◌, ◌<◌, ◌≤◌, false, length, Some};
-ghost use Rattle.rows.specs.Waiting.{layout, vouched, awaits};
-ghost use Rattle.rows.specs.Rows.{room, Vouches, Entered};
+ghost use Rattle.rows.specs.Waiting.{layout, vouched};
+ghost use Rattle.front.specs.Places.{room};
+ghost use Rattle.rows.specs.Rows.{Vouches, Entered};
 ghost use Rattle.rows.specs.Links.{edit, seated, new_cost, new_next, new_back, linked, follower, spliced, is_head, unlinked, new_head};
 
 use rows::RingRecord;
 
 // Whether the position that a place names is in use, and names it.
-fn in_use<C: Copy>(list: &[RingRecord<C>], touched: usize, place: u32) -> bool
+pub fn in_use<C: Copy>(list: &[RingRecord<C>], touched: usize, place: u32) -> bool
     requires few { touched ≤ room (length list.now) }
     requires inside { place + 1 < length list.now }
     ensures { result ≡ vouched (layout list.now) touched place }
 {
     let at = list[place as usize + 1].at as usize;
-    if at >= touched {
-        return false;
-    }
-    list[at + 1].slot == place
-}
-
-// The cost at which a place waits.
-pub fn waiting_at<C: Copy>(list: &[RingRecord<C>], touched: usize, place: u32) -> Option<C>
-    requires few { touched ≤ room (length list.now) }
-    requires inside { place + 1 < length list.now }
-    ensures { result ≡ awaits (layout list.now) touched place }
-{
-    if in_use(list, touched, place) {
-        list[place as usize + 1].cost
-    } else {
-        None
-    }
+    at < touched && list[at + 1].slot == place
 }
 
 // Gives a place a cost, or none.
@@ -98,7 +83,7 @@ fn next_place<C: Copy>(list: &[RingRecord<C>], place: u32) -> Option<u32>
     ensures { result ≡ follower (layout list.now) place }
 {
     let next = list[place as usize + 1].next;
-    if next == place { None } else { Some(next) }
+    (next != place).then_some(next)
 }
 
 // Joins the neighbours of a place that is not the head of its row.
@@ -115,16 +100,6 @@ fn splice<C: Copy>(list: &mut [RingRecord<C>], place: u32)
     set_back(list, next, back);
 }
 
-// Whether a place is the head of a row.
-fn heads_row(head: Option<u32>, place: u32) -> bool
-    ensures { result ≡ is_head head place }
-{
-    match head {
-        Some(first) => first == place,
-        None => false,
-    }
-}
-
 // Takes a place out of its row, and answers the row's new head.
 pub fn unlink<C: Copy>(list: &mut [RingRecord<C>], head: Option<u32>, place: u32) -> Option<u32>
     requires place { place + 1 < length list.old }
@@ -133,7 +108,7 @@ pub fn unlink<C: Copy>(list: &mut [RingRecord<C>], head: Option<u32>, place: u32
     ensures head { result ≡ new_head (layout list.old) head place }
     ensures records { layout list.new ≡ unlinked (layout list.old) head place }
 {
-    if heads_row(head, place) {
+    if head == Some(place) {
         return next_place(list, place);
     }
     splice(list, place);

@@ -1,16 +1,17 @@
 // The row that comes first.
-ghost use Rattle.std.specs.Prelude.{◌≡◌, ◌+◌, ◌%◌, ◌<◌, ◌≤◌, None, slice_index_or};
+ghost use Rattle.std.specs.Prelude.{◌≡◌, ◌+◌, ◌%◌, ◌<◌, ◌≤◌, ◌++◌, None, slice_index_or, length, position, is_some, take, drop};
 ghost use Rattle.rows.specs.Waiting.{some_rows};
 ghost use Rattle.rows.specs.Rows.{base};
-ghost use Rattle.ring.specs.Rings.{Found};
+ghost use Rattle.ring.specs.Rings.{Found, InOrder};
 
+use super::Ring;
 use tariff::Tariff;
 
 // Whether tariffs of a span are served: they have from 2 to 32 rows.
 pub fn has_rows(span: u32) -> bool
     ensures { result ≡ some_rows span }
 {
-    1 <= span && span <= 31
+    (1..=31).contains(&span)
 }
 
 // How many rows a span needs: one more, so that no two levels of a wave share a row.
@@ -27,37 +28,36 @@ pub struct Bucket {
     pub head: u32,
 }
 
-// The row of a cost.
-pub fn row_of<T: Tariff>(cost: T::Cost, rows: u64) -> usize
-    requires { 0 < rows }
-    ensures { result ≡ T.Tariff.rates.level cost % rows }
+// How many rows there are before the first that is not empty, from one on round the ring.
+fn rows_ahead(heads: &[Option<u32>], from: usize) -> Option<usize>
+    requires { from ≤ length heads.now }
+    ensures { result ≡ position is_some (drop from heads.now ++ take from heads.now) }
 {
-    (T::level(cost) % rows) as usize
+    heads[from..]
+        .iter()
+        .chain(heads[..from].iter())
+        .position(|head| head.is_some())
 }
 
-// The row of the cost taken last, or of nothing.
-pub fn base_row<T: Tariff>(last: Option<T::Cost>, rows: u64) -> usize
-    requires { 0 < rows }
-    ensures { result ≡ base T.Tariff.rates last % rows }
-{
-    match last {
-        Some(cost) => row_of::<T>(cost, rows),
-        None => row_of::<T>(T::nothing(), rows),
+impl<'a, C: Copy> Ring<'a, C> {
+    // The row of a cost.
+    pub fn row_of<T: Tariff<Cost = C>>(&self, cost: C) -> usize
+        requires { 0 < self.now.rows }
+        ensures { result ≡ T.Tariff.rates.level cost % self.now.rows }
+    {
+        (T::level(cost) % self.rows) as usize
     }
-}
 
-// The first row that is not empty, from one on round the ring.
-pub fn first_row(heads: &[Option<u32>; 32], rows: usize, from: usize) -> Option<Bucket>
-    requires rows { rows ≤ 32 }
-    requires from { from < rows }
-    ensures { Found (λ k. slice_index_or heads.now k None) rows from result }
-{
-    for i in 0..rows {
-        let row = (from + i) % rows;
-        let head = heads[row];
-        if let Some(first) = head {
-            return Some(Bucket { row, head: first });
-        }
+    // The first row that is not empty, from that of the cost taken last, or of nothing, on round the ring.
+    pub fn first_row<T: Tariff<Cost = C>>(&self) -> Option<Bucket>
+        requires { InOrder T.Tariff.rates self.now }
+        ensures { Found (λ k. slice_index_or self.now.heads k None) self.now.rows (base T.Tariff.rates self.now.last % self.now.rows) result }
+    {
+        let rows = self.rows as usize;
+        let from = self.row_of::<T>(self.last.unwrap_or(T::nothing()));
+        let ahead = rows_ahead(&self.heads[..rows], from)?;
+        let row = (from + ahead) % rows;
+        let head = self.heads[row].unwrap();
+        Some(Bucket { row, head })
     }
-    None
 }

@@ -4,9 +4,10 @@ use Rattle.std.proofs.lemmas.Bool.{cases_eq}
 use Rattle.std.proofs.lemmas.List.{get_or_default}
 use Rattle.rows.specs.declared.RingRecord.{RingRecord}
 use Rattle.rows.specs.Waiting.{layout, blank, vouched, awaits}
-use Rattle.rows.specs.Links.{changed, edit, new_next, new_back}
+use Rattle.front.specs.Places.{changed}
+use Rattle.rows.specs.Links.{edit, new_next, new_back}
 use Rattle.rows.specs.Rows.{Vouches}
-use Rattle.rows.proofs.Changes.{equal, changed_at, changed_off}
+use Rattle.front.proofs.Changes.{equal, changed_at, changed_off}
 
 -- a list of any elements after a write
 pub wrote : {X : Type 0} (xs : List X) (i : ℕ) (v d : X) (k : ℕ) → i < length xs → get_or (set xs i v) k d ≡ changed (λ j. get_or xs j d) i v k

@@ -3,9 +3,11 @@ use Rattle.std.proofs.Common.{◌≡◌, ℕ, ◌%◌, ◌<◌, List, length, ge
 use Rattle.tariff.specs.Rates.{Rates}
 use Rattle.rows.specs.declared.RingRecord.{RingRecord}
 use Rattle.rows.specs.Waiting.{layout, awaits}
-use Rattle.rows.specs.Links.{changed, edit, new_cost, linked, unlinked, new_head}
-use Rattle.rows.specs.Rows.{room, filed, base, Within, Sound, Entered, Ordered}
-use Rattle.rows.proofs.Changes.{equal}
+use Rattle.front.specs.Places.{changed}
+use Rattle.rows.specs.Links.{edit, new_cost, linked, unlinked, new_head}
+use Rattle.front.specs.Places.{room}
+use Rattle.rows.specs.Rows.{filed, base, Within, Sound, Entered, Ordered}
+use Rattle.front.proofs.Changes.{equal}
 use Rattle.rows.proofs.Edits.{wrote}
 use Rattle.rows.proofs.Keeping.{filed_waits, joined_sound, joined_waiting, left_sound, left_waiting}
 

@@ -7,9 +7,10 @@ use Rattle.grid.specs.declared.step.Step.{Step}
 use Rattle.tariff.specs.Rates.{Rates, Laws}
 use Rattle.rows.specs.declared.RingRecord.{RingRecord}
 use Rattle.rows.specs.Waiting.{vouched, awaits, some_rows}
-use Rattle.rows.specs.Links.{changed, edit, new_cost, new_next, new_back, linked, follower, spliced, is_head, unlinked, new_head}
+use Rattle.front.specs.Places.{changed}
+use Rattle.rows.specs.Links.{edit, new_cost, new_next, new_back, linked, follower, spliced, is_head, unlinked, new_head}
 use Rattle.rows.specs.Rows.{filed, base, Rows, Fits, Within, Sound, Entered, First}
-use Rattle.rows.proofs.Changes.{equal, changed_at, changed_off, changed_same, none_some, cases_option}
+use Rattle.front.proofs.Changes.{equal, changed_at, changed_off, changed_same, none_some, cases_option}
 use Rattle.rows.proofs.Edits.{field, kept, Same, same_vouched, same_awaits, same_vouches}
 use Rattle.rows.proofs.Vouching.{vouched_far, vouched_inside, awaits_vouched}
 use Rattle.rows.proofs.Linking as linking

@@ -1,4 +1,3 @@
-pub mod Changes
 pub mod Linking
 pub mod Edits
 pub mod Vouching

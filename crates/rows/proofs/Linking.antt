@@ -1,9 +1,9 @@
 -- Rows stay rows as a place is put before a head, or is taken out.
 use Rattle.std.proofs.Common.{◌≡◌, ℕ, zero, suc, ◌+◌, ◌≤◌, cond, eqb, Some, None, Option, unwrap_or, sym, refl, ap, ◌∙◌, subst, ⊎_elim, arith}
 use Rattle.std.proofs.lemmas.Bool.{cases_eq, eq-eqb, ne_eqb, cond-true, cond-false}
-use Rattle.rows.specs.Links.{changed}
+use Rattle.front.specs.Places.{changed}
 use Rattle.rows.specs.Rows.{Follows, Rows}
-use Rattle.rows.proofs.Changes.{changed_at, changed_off, none_some, cases_option}
+use Rattle.front.proofs.Changes.{changed_at, changed_off, none_some, cases_option}
 
 -- A PLACE p IS PUT BEFORE THE HEAD OF THE ROW r
 module _ (f heads : ℕ → Option ℕ) (next back rank : ℕ → ℕ) (R : Rows f heads next back rank) (p r : ℕ) (u : f p ≡ None) where

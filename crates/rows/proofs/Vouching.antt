@@ -3,38 +3,12 @@ use Rattle.std.proofs.Common.{◌≡◌, ℕ, zero, suc, ◌+◌, ◌<◌, ◌�
 use Rattle.std.proofs.lemmas.Bool.{cases_eq, cases_Bool, cases_lt, both_ways, cond-true, cond-false, eq-eqb, ne_eqb, eqb-true, ltb-true, lt-ltb, le-ltb, and_parts, and_from, and_left, and_right}
 use Rattle.rows.specs.declared.RingRecord.{RingRecord}
 use Rattle.rows.specs.Waiting.{vouched, awaits}
-use Rattle.rows.specs.Links.{changed, edit, seated, new_cost, new_slot, new_at}
+use Rattle.front.specs.Places.{changed}
+use Rattle.rows.specs.Links.{edit, seated, new_cost, new_slot, new_at}
 use Rattle.rows.specs.Rows.{Vouches, Entered}
-use Rattle.rows.proofs.Changes.{changed_at, changed_off}
+use Rattle.front.proofs.Changes.{changed_at, changed_off}
+use Rattle.front.proofs.Numbers.{leaves_room}
 use Rattle.rows.proofs.Edits.{field, kept, same_vouched, same_vouches}
-
--- m different numbers below n are at most n
-pub pigeons : (n m : ℕ) (f : ℕ → ℕ) → ((i : ℕ) → i < m → f i < n) → ((i j : ℕ) → i < m → j < m → f i ≡ f j → i ≡ j) → m ≤ n
-pigeons n zero f b d = omega arith
-pigeons zero (suc m) f b d = let x = b m (omega arith) in absurd (omega arith)
-pigeons (suc n) (suc m) f b d =
-    -- the last number takes the place of n
-    let g : ℕ → ℕ = λ i. cond (eqb (f i) n) (f m) (f i) in
-    let at : ((i : ℕ) → f i ≡ n → g i ≡ f m) = λ i e. cond-true (eqb (f i) n) (f m) (f i) (eq-eqb (f i) n e) in
-    let off : ((i : ℕ) → (f i ≡ n → ⊥) → g i ≡ f i) = λ i e. cond-false (eqb (f i) n) (f m) (f i) (ne_eqb (f i) n e) in
-    let apart : ((i : ℕ) → i < m → f i ≡ f m → ⊥) = λ i l e. let s = d i m (omega arith) (omega arith) e in omega arith in
-    let r : m ≤ n = pigeons n m g
-    (λ i l. ⊎_elim
-    (λ e. let x = b m (omega arith) in let y : (f m ≡ n → ⊥) = λ z. apart i l (e ∙ sym z) in
-    subst (λ z. z < n) (sym (at i e)) (⊎_elim (λ z. absurd (y z)) (λ z. omega arith) (cases_eq (f m) n)))
-    (λ e. let x = b i (omega arith) in subst (λ z. z < n) (sym (off i e)) (omega arith))
-    (cases_eq (f i) n))
-    (λ i j li lj e. ⊎_elim
-    (λ ei. ⊎_elim
-    (λ ej. d i j (omega arith) (omega arith) (ei ∙ sym ej))
-    (λ ej. absurd (apart j lj (sym (off j ej) ∙ sym e ∙ at i ei)))
-    (cases_eq (f j) n))
-    (λ ei. ⊎_elim
-    (λ ej. absurd (apart i li (sym (off i ei) ∙ e ∙ at j ej)))
-    (λ ej. d i j (omega arith) (omega arith) (sym (off i ei) ∙ e ∙ off j ej))
-    (cases_eq (f j) n))
-    (cases_eq (f i) n)) in
-    omega arith
 
 module _ {C : Type 0} (h : ℕ → RingRecord C) (touched : ℕ) where
   pub vouched_is : (p : ℕ) → vouched h touched p ≡ true → ((h p).at < touched) × ((h (h p).at).slot ≡ p)
@@ -70,27 +44,11 @@ module _ {C : Type 0} (h : ℕ → RingRecord C) (touched : ℕ) where
         both_ways (vouched h touched p) v (vouched_from p (omega arith) (ap (λ z. (h z).slot) b ∙ e))
 
     pub has_room : (p : ℕ) → vouched h touched p ≡ false → p < n → touched < n
-    has_room p v l =
-        let s : ℕ → ℕ = λ i. (h i).slot in
-        let f : ℕ → ℕ = changed s touched p in
-        let at : ((i : ℕ) → i ≡ touched → f i ≡ p) = λ i e. changed_at s touched p i e in
-        let off : ((i : ℕ) → (i ≡ touched → ⊥) → f i ≡ s i) = λ i e. changed_off s touched p i e in
-        let r : suc touched ≤ n = pigeons n (suc touched) f
-        (λ i li. ⊎_elim
-        (λ e. subst (λ z. z < n) (sym (at i e)) l)
-        (λ e. subst (λ z. z < n) (sym (off i e)) (V.slots i (omega arith)).0)
-        (cases_eq i touched))
-        (λ i j li lj e. ⊎_elim
-        (λ ei. ⊎_elim
-        (λ ej. ei ∙ sym ej)
-        (λ ej. absurd (absent p j v (omega arith) (sym (off j ej) ∙ sym e ∙ at i ei)))
-        (cases_eq j touched))
-        (λ ei. ⊎_elim
-        (λ ej. absurd (absent p i v (omega arith) (sym (off i ei) ∙ e ∙ at j ej)))
-        (λ ej. sym (V.slots i (omega arith)).1 ∙ ap (λ z. (h z).at) (sym (off i ei) ∙ e ∙ off j ej) ∙ (V.slots j (omega arith)).1)
-        (cases_eq j touched))
-        (cases_eq i touched)) in
-        omega arith
+    has_room p v l = leaves_room n touched p (λ i. (h i).slot)
+        (λ i li. (V.slots i li).0)
+        (λ i j li lj e. sym (V.slots i li).1 ∙ ap (λ z. (h z).at) e ∙ (V.slots j lj).1)
+        (λ i li e. absent p i v li e)
+        l
 
     -- a place in use is given a cost
     pub entered_known : (p : ℕ) (c : C) → vouched h touched p ≡ true → Entered h n touched p c (edit h p (new_cost (Some c))) touched

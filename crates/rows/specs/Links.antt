@@ -1,11 +1,8 @@
 -- What a ring writes into its records.
 use Rattle.std.specs.Prelude.{ℕ, Bool, false, cond, Some, None, Option, ◌==◌}
 use Rattle.std.specs.Option.{unwrap_or}
+use Rattle.front.specs.Places.{changed}
 use Rattle.rows.specs.declared.RingRecord.{RingRecord}
-
--- a function changed at one argument
-abbrev pub changed : {X : Type 0} → (ℕ → X) → ℕ → X → ℕ → X
-changed f i x k = cond (k == i) x (f k)
 
 -- one record is edited
 abbrev pub edit : {C : Type 0} → (ℕ → RingRecord C) → ℕ → (RingRecord C → RingRecord C) → ℕ → RingRecord C

@@ -4,11 +4,7 @@ use Rattle.std.specs.Option.{option_map, unwrap_or}
 use Rattle.tariff.specs.Rates.{Rates}
 use Rattle.rows.specs.declared.RingRecord.{RingRecord}
 use Rattle.rows.specs.Waiting.{layout, awaits}
-use Rattle.rows.specs.Links.{changed}
-
--- how many places have records, and numbers of 32 bits
-abbrev pub room : ℕ → ℕ
-room n = min (n - 1) 4294967296
+use Rattle.front.specs.Places.{room, changed}
 
 -- the positions in use have places, of n, that name them
 pub record Vouches {C : Type 0} (h : ℕ → RingRecord C) (n touched : ℕ) : Type 0 where

@@ -1,8 +1,10 @@
 -- Which places wait, and the links between places and positions.
 use Rattle.std.proofs.Common.{◌≡◌, ℕ, ◌<◌, ◌≤◌, Bool, true, false, cond, ◌&&◌, eqb, leb, Some, None, sym, refl, ap, ◌∙◌, subst, ⊎_elim, arith}
 use Rattle.std.proofs.lemmas.Bool.{cases_eq, cases_Bool, cond-true, cond-false, and_parts, and_from, leb-true, le-leb, eqb-true, eq-eqb}
-use Rattle.sift.specs.Layouts.{Layout, filled, changed, Linked, waits, wait_cost}
-use Rattle.sift.proofs.Records.{changed_at, changed_off, layout_same, changed_same}
+use Rattle.front.specs.Places.{changed}
+use Rattle.sift.specs.Layouts.{Layout, filled, Linked, waits, wait_cost}
+use Rattle.front.proofs.Changes.{changed_at, changed_off, changed_same}
+use Rattle.sift.proofs.Records.{layout_same}
 
 pub same_test : (a b : Bool) → (a ≡ true → b ≡ true) → (b ≡ true → a ≡ true) → a ≡ b
 same_test true b f g = sym (f refl)

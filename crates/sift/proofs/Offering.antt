@@ -3,7 +3,7 @@ use Rattle.std.proofs.Common.{◌≡◌, ℕ, ◌+◌, ◌/◌, ◌<◌, ◌≤�
 use Rattle.std.proofs.lemmas.Bool.{cases_eq}
 use Rattle.tariff.specs.Rates.{Rates, Laws}
 use Rattle.sift.specs.Layouts.{Layout, filled, priced, lower, key, waits, Linked, Heaped, OrderUp, HoleUp, Sifted, WaitsAt, WaitsAlone}
-use Rattle.sift.proofs.Records.{changed_at, changed_off}
+use Rattle.front.proofs.Changes.{changed_at, changed_off}
 use Rattle.sift.proofs.Links.{same_test, waits_true, waits_position, position_waits, waiting_cost, wait_cost_same, empty_wait_cost, filled_self}
 use Rattle.sift.proofs.Orders.{not_lower, lower_not}
 use Rattle.sift.proofs.Rooms.{absent, has_room}

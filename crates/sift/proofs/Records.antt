@@ -3,22 +3,10 @@ use Rattle.std.proofs.Common.{◌≡◌, ℕ, ◌+◌, ◌<◌, List, length, ge
 use Rattle.std.proofs.lemmas.Bool.{cases_eq, cases_lt, eq-eqb, ne_eqb}
 use Rattle.std.proofs.lemmas.Option.{slice_get-get_or, slice_get_past}
 use Rattle.std.specs.List.{slice_get}
+use Rattle.front.proofs.Changes.{changed_at, changed_off}
 use Rattle.sift.specs.declared.record.HeapRecord.{HeapRecord}
-use Rattle.sift.specs.Layouts.{Layout, layout, priced, changed, slot_in, at_in, cost_in}
-
--- what `changed` is
-pub changed_at : {X : Type 0} (f : ℕ → X) (i : ℕ) (x : X) (k : ℕ) → k ≡ i → changed f i x k ≡ x
-changed_at f i x k e = rw (eq-eqb k i e)
-
-pub changed_off : {X : Type 0} (f : ℕ → X) (i : ℕ) (x : X) (k : ℕ) → (k ≡ i → ⊥) → changed f i x k ≡ f k
-changed_off f i x k ne = rw (ne_eqb k i ne)
-
--- a value is written where it was
-pub changed_same : {X : Type 0} (f : ℕ → X) (i : ℕ) (v : X) (x : ℕ) → v ≡ f i → changed f i v x ≡ f x
-changed_same f i v x h = ⊎_elim
-    (λ e. changed_at f i v x e ∙ h ∙ ap f (sym e))
-    (λ ne. changed_off f i v x ne)
-    (cases_eq x i)
+use Rattle.front.specs.Places.{changed}
+use Rattle.sift.specs.Layouts.{Layout, layout, priced, slot_in, at_in, cost_in}
 
 -- one record is written
 nth_set_same : {X : Type 0} (xs : List X) (i : ℕ) (r : X) → i < length xs → slice_get (set xs i r) i ≡ Some r

@@ -4,7 +4,7 @@ use Rattle.std.proofs.lemmas.Bool.{cases_eq, cases_Bool, cond-true, cond-false}
 use Rattle.tariff.specs.Rates.{Rates, Laws}
 use Rattle.front.proofs.Costs.{under}
 use Rattle.sift.specs.Layouts.{Layout, filled, lower, key, waits, wait_cost, Linked, Heaped, HoleDown, Sifted, WaitsNoMore, LeastWaits}
-use Rattle.sift.proofs.Records.{changed_at, changed_off}
+use Rattle.front.proofs.Changes.{changed_at, changed_off}
 use Rattle.sift.proofs.Links.{same_test, waits_true, waits_position, position_waits, slot_waits, waits_false, empty_waits, waiting_cost, wait_cost_same}
 use Rattle.sift.proofs.Orders.{first_least}
 use Rattle.sift.proofs.Sifts.{same_self}

@@ -1,8 +1,9 @@
 -- One turn of a place that is sifted up or down.
 use Rattle.std.proofs.Common.{◌≡◌, ℕ, ◌+◌, ◌/◌, ◌<◌, ◌≤◌, true, false, Some, None, sym, refl, ap, ◌∙◌, subst, arith}
 use Rattle.tariff.specs.Rates.{Rates, Laws}
-use Rattle.sift.specs.Layouts.{Layout, room, filled, changed, lower, key, Order, Hole, HoleUp, HoleDown, SameWaiting, Sifted, Vacant, below_parent, lower_child}
-use Rattle.sift.proofs.Records.{changed_at, changed_off}
+use Rattle.front.specs.Places.{room, changed}
+use Rattle.sift.specs.Layouts.{Layout, filled, lower, key, Order, Hole, HoleUp, HoleDown, SameWaiting, Sifted, Vacant, below_parent, lower_child}
+use Rattle.front.proofs.Changes.{changed_at, changed_off}
 use Rattle.sift.proofs.Links.{link_step, link_waits}
 use Rattle.sift.proofs.Orders.{swap_up, settled_up, swap_down, settled_down, below_parent_true, below_parent_false, lower_child_some, lower_child_none}
 

@@ -3,6 +3,7 @@ use Rattle.std.specs.Prelude.{◌≡◌, ℕ, ◌+◌, ◌-◌, ◌*◌, ◌/◌
 use Rattle.std.specs.List.{slice_get}
 use Rattle.grid.specs.declared.step.Step.{Step}
 use Rattle.tariff.specs.Rates.{Rates}
+use Rattle.front.specs.Places.{changed}
 use Rattle.sift.specs.declared.record.HeapRecord.{HeapRecord}
 
 -- THE LIST AS THREE FUNCTIONS
@@ -34,14 +35,6 @@ layout xs = record {
   at = λ p. at_in (slice_get xs (p + 1)) + 1;
   cost = λ p. cost_in (slice_get xs (p + 1));
 }
-
--- how many places and positions a list of n records has: one fewer, and no more than there are u32
-abbrev pub room : ℕ → ℕ
-room n = min (n - 1) 4294967296
-
--- f, changed at one argument
-abbrev pub changed : {X : Type 0} → (ℕ → X) → ℕ → X → ℕ → X
-changed f i x k = cond (k == i) x (f k)
 
 -- the place p is put at the position i
 abbrev pub filled : {C : Type 0} → Layout C → ℕ → ℕ → Layout C

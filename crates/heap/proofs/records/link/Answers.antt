@@ -1,5 +1,6 @@
 use Rattle.std.proofs.Common.{◌-◌, ap, ◌∙◌, arith, length-set}
-use Rattle.sift.specs.Layouts.{Layout, changed}
+use Rattle.front.specs.Places.{changed}
+use Rattle.sift.specs.Layouts.{Layout}
 use Rattle.sift.proofs.Records.{write_slot, write_at}
 use Rattle.heap.proofs.records.link.Goals as goal
 

@@ -1,5 +1,6 @@
 use Rattle.std.proofs.Common.{length, arith}
-use Rattle.sift.specs.Layouts.{layout, room, filled}
+use Rattle.front.specs.Places.{room}
+use Rattle.sift.specs.Layouts.{layout, filled}
 use Rattle.sift.proofs.Orders.{lower_child_some}
 use Rattle.sift.proofs.Sifts.{same_self, hole_place, hole_fits, hole_vacant, down_turn, down_done}
 use Rattle.heap.proofs.sifting.sift_down.Goals as goal

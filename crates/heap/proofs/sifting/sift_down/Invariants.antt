@@ -1,5 +1,6 @@
 use Rattle.std.proofs.Common.{◌-◌, length}
-use Rattle.sift.specs.Layouts.{layout, room, filled}
+use Rattle.front.specs.Places.{room}
+use Rattle.sift.specs.Layouts.{layout, filled}
 use Rattle.sift.proofs.Sifts.{GoingDown}
 use Rattle.heap.proofs.sifting.sift_down.Given as goal
 

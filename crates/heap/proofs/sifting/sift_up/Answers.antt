@@ -1,5 +1,6 @@
 use Rattle.std.proofs.Common.{◌/◌, length, arith}
-use Rattle.sift.specs.Layouts.{layout, room, filled}
+use Rattle.front.specs.Places.{room}
+use Rattle.sift.specs.Layouts.{layout, filled}
 use Rattle.sift.proofs.Orders.{below_parent_true}
 use Rattle.sift.proofs.Sifts.{same_self, hole_place, hole_fits, up_turn, up_done}
 use Rattle.heap.proofs.sifting.sift_up.Goals as goal

@@ -1,5 +1,6 @@
 use Rattle.std.proofs.Common.{◌+◌, length, sym, refl, subst}
-use Rattle.sift.specs.Layouts.{layout, room, filled, HoleUp, Sifted}
+use Rattle.front.specs.Places.{room}
+use Rattle.sift.specs.Layouts.{layout, filled, HoleUp, Sifted}
 use Rattle.sift.proofs.Offering.{insert_hole, inserted}
 use Rattle.heap.proofs.waiting.insert.Goals as goal
 

@@ -1,5 +1,6 @@
 use Rattle.std.proofs.Common.{length, sym, subst}
-use Rattle.sift.specs.Layouts.{layout, room, WaitsAlone}
+use Rattle.front.specs.Places.{room}
+use Rattle.sift.specs.Layouts.{layout, WaitsAlone}
 use Rattle.sift.proofs.Offering.{inserted_alone}
 use Rattle.heap.proofs.waiting.insert_alone.Goals as goal
 

@@ -1,5 +1,6 @@
 use Rattle.std.proofs.Common.{◌≡◌, ◌-◌, length, sym, subst, arith}
-use Rattle.sift.specs.Layouts.{layout, room, filled, HoleDown, Sifted, WaitsNoMore, LeastWaits}
+use Rattle.front.specs.Places.{room}
+use Rattle.sift.specs.Layouts.{layout, filled, HoleDown, Sifted, WaitsNoMore, LeastWaits}
 use Rattle.sift.proofs.Removing.{first_waits, moved_hole, removed, removed_only}
 use Rattle.heap.proofs.waiting.remove_first.Goals as goal
 use Rattle.heap.proofs.waiting.remove_first.Goals.{then-count-gt1, else-count-gt1}

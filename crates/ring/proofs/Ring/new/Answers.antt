@@ -1,16 +1,9 @@
-use Rattle.std.proofs.Common.{◌-◌, length, ap, lit≤}
-use Rattle.ring.proofs.Emptying.{none_waits, in_order}
+use Rattle.std.proofs.Common.{refl, lit≤}
+use Rattle.rows.specs.Waiting.{layout}
+use Rattle.front.specs.Places.{room}
+use Rattle.std.proofs.Common.{length}
+use Rattle.rows.proofs.Keeping.{empty_sound, no_heads}
 use Rattle.ring.proofs.Ring.new.Goals as goal
 
-pub returns : goal.returns
-returns g c =
-    let s = c.empty.result in
-    let e = c.empty.ensures in
-    record {
-      none = none_waits s 1 e.emptied;
-      last = e.emptied.last;
-      served = ap (λ k. length k - 1) e.list;
-      order = in_order s 1 e.emptied (lit≤ tt) (lit≤ tt);
-      list = e.list;
-      lent = e.lent;
-    }
+pub returns-clause-order : goal.returns-clause-order
+returns-clause-order g c t = empty_sound t (layout c.args.list.now) (room (length c.args.list.now)) 1 _ (lit≤ tt) (lit≤ tt) (λ k. no_heads 32 k)

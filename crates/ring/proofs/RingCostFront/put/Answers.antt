@@ -1,42 +1,17 @@
-use Rattle.std.proofs.Common.{Some, None, sym, refl, ap, ◌∙◌, arith}
-use Rattle.std.proofs.lemmas.Bool.{cond-true}
-use Rattle.front.specs.Queue.{offer, smaller}
-use Rattle.rows.proofs.Keeping.{step_within}
-use Rattle.ring.specs.Rings.{view_of}
-use Rattle.ring.proofs.Offering.{here, others}
+use Rattle.std.proofs.Common.{◌≡◌, ◌<◌, ◌-◌, length, sym, ◌∙◌, ⊎_elim, arith, rules}
+use Rattle.tariff.specs.Rates.{then}
+use Rattle.front.proofs.Changes.{cases_option}
+use Rattle.front.proofs.Offers.{offer_is, offered}
 use Rattle.ring.proofs.RingCostFront.put.Goals as goal
 
-pub offer-requires : goal.offer-requires
-offer-requires g c =
-    let s = c.args.self.now in
-    let xs = s.list.now in
-    record {
-      order = c.requires;
-      inside = c.if-place-self.false;
-      near = step_within g.T.Tariff.rates c.requires
-          g.met.T.Tariff.laws c.in-Some.from c.in-Some-after.cost c.args.step c.in-Some.is (sym c.in-Some-after.ensures);
-    }
-
-pub returns : goal.returns
-returns g c =
+pub returns-clause-acts : goal.returns-clause-acts
+returns-clause-acts g c =
     let t = g.T.Tariff.rates in
-    let p = c.args.place in
-    let q = view_of c.args.self.now in
-    let q' = view_of c.offer.new.ring in
-    let x = c.in-Some-after.cost in
-    let e = c.offer.ensures.change in
-    let i = c.if-place-self.false in
-    record {
-      acts = record {
-        inside = omega arith;
-        cost = x;
-        offered = ap (λ l. offer t l c.args.step) c.in-Some.is
-            ∙ cond-true (t.has c.args.step) (t.after c.in-Some.from c.args.step) None (sym c.if-not-has.ensures)
-            ∙ sym c.in-Some-after.ensures;
-        here = here q q' p (Some (smaller t (q.waiting p) x)) e;
-        others = others q q' p (Some (smaller t (q.waiting p) x)) e;
-        last = e.last;
-        serves = record { served = e.served; spans = refl };
-      };
-      kept = c.offer.ensures.order;
-    }
+    let s = c.args.self.now in
+    let k = c.args.step in
+    let inside : c.args.place < length s.list.now - 1 = search rules in
+    let made : then t s.last k ≡ c.and_then.result = ⊎_elim
+    (λ e. let h = rw e at c.and_then.ensures in rw e (sym h))
+    (λ d. let h = rw d.1 at c.and_then.ensures in rw d.1 (search rules))
+    (cases_option s.last) in
+    offered inside (offer_is g.met.T.Tariff.laws s.last k ∙ made ∙ c.in-Some.is) c.offer.ensures.change

@@ -1,72 +1,50 @@
-use Rattle.std.proofs.Common.{None, sym, refl, arith}
+use Rattle.std.proofs.Common.{sym, refl, ◌∙◌, ⊎_elim, arith}
 use Rattle.rows.proofs.Keeping.{none_waits, head_inside, first_filed, first_waits, first_early}
+use Rattle.front.proofs.Changes.{cases_option}
+use Rattle.front.proofs.Offers.{here, others}
 use Rattle.ring.specs.Rings.{view_of}
-use Rattle.ring.proofs.Offering.{here, others}
 use Rattle.ring.proofs.Taking.{taken_order}
 use Rattle.ring.proofs.RingCostFront.take.Goals as goal
 
-pub returns-in_default : goal.returns-in_default
-returns-in_default g c =
-    let s = c.args.self.now in
-    let xs = s.list.now in
-    record {
-      acts = record {
-        none = none_waits g.T.Tariff.rates c.requires
-            c.base_row-from.result c.base_row-from.ensures c.in_default.ensures;
-        same = refl;
-      };
-      kept = c.requires;
-    }
+pub returns-in_err-first-clause-acts : goal.returns-in_err-first-clause-acts
+returns-in_err-first-clause-acts g c =
+    rw c.from_residual.ensures (record { none = none_waits g.T.Tariff.rates c.requires _ refl c.in_err-first.ensures; same = refl })
 
-pub waiting_at-requires : goal.waiting_at-requires
-waiting_at-requires g c =
-    let s = c.args.self.now in
-    let xs = s.list.now in
-    let b = c.in-Some.first in
-    let i = head_inside g.T.Tariff.rates c.requires b.row b.head c.in-Some.ensures.head_is in
-    record { few = c.requires.vouches.few; inside = omega arith }
+pub waiting_at-requires-clause-inside : goal.waiting_at-requires-clause-inside
+waiting_at-requires-clause-inside g c =
+    let b = c.in_ok-first.first in
+    let i = head_inside g.T.Tariff.rates c.requires b.row b.head c.in_ok-first.ensures.head_is in
+    omega arith
 
-pub unreachable-requires : goal.unreachable-requires
-unreachable-requires g c =
-    let s = c.args.self.now in
-    let xs = s.list.now in
-    let b = c.in-Some.first in
-    first_waits g.T.Tariff.rates c.requires
-    c.base_row-from.result c.base_row-from.ensures b.row b.head c.in-Some.ensures (sym c.in_default-waiting_at.ensures)
+pub unwrap-cost-requires : goal.unwrap-cost-requires
+unwrap-cost-requires g c =
+    let b = c.in_ok-first.first in
+    ⊎_elim
+    (λ e. absurd (first_waits g.T.Tariff.rates c.requires _ refl b.row b.head c.in_ok-first.ensures (sym c.waiting_at.ensures ∙ e)))
+    (λ x. rw x.1)
+    (cases_option c.waiting_at.result)
 
-pub leave-requires : goal.leave-requires
-leave-requires g c =
-    let s = c.args.self.now in
-    let xs = s.list.now in
-    let b = c.in-Some.first in
-    record {
-      order = c.requires;
-      filed = first_filed g.T.Tariff.rates c.requires
-          c.base_row-from.result c.base_row-from.ensures b.row b.head c.in-Some.ensures;
-    }
-
-pub returns : goal.returns
-returns g c =
+pub returns-clause-acts : goal.returns-clause-acts
+returns-clause-acts g c =
     let t = g.T.Tariff.rates in
-    let s = c.args.self.now in
-    let s' = c.leave.new.ring in
-    let xs = s.list.now in
-    let b = c.in-Some.first in
-    let x = c.in-Some-waiting_at.cost in
+    let b = c.in_ok-first.first in
+    let x = c.unwrap-cost.result in
     let e = c.leave.ensures.change in
-    let w = sym c.in-Some-waiting_at.ensures in
-    let f = c.in-Some.ensures in
+    let w = sym c.waiting_at.ensures ∙ c.unwrap-cost.ensures in
+    let f = c.in_ok-first.ensures in
     let i = head_inside t c.requires b.row b.head f.head_is in
     record {
-      acts = record {
-        inside = omega arith;
-        was = w;
-        gone = here (view_of s) (view_of s') b.head None e;
-        others = others (view_of s) (view_of s') b.head None e;
-        last = refl;
-        serves = record { served = e.served; spans = refl };
-        early = first_early t c.requires
-            c.base_row-from.result c.base_row-from.ensures b.row b.head f x w g.met.T.Tariff.laws;
-      };
-      kept = taken_order t s s' c.requires c.base_row-from.result b.row b.head c.base_row-from.ensures f x w c.leave.ensures.order e c.leave.ensures.rows;
+      inside = omega arith;
+      was = w;
+      gone = here e;
+      others = others e;
+      last = refl;
+      serves = record { served = e.serves.served; spans = refl };
+      early = first_early t c.requires _ refl b.row b.head f x w g.met.T.Tariff.laws;
     }
+
+pub returns-clause-kept : goal.returns-clause-kept
+returns-clause-kept g c =
+    let b = c.in_ok-first.first in
+    taken_order g.T.Tariff.rates c.args.self.now c.leave.new.self c.requires _ b.row b.head refl c.in_ok-first.ensures c.unwrap-cost.result
+    (sym c.waiting_at.ensures ∙ c.unwrap-cost.ensures) c.leave.ensures.order c.leave.ensures.change c.leave.ensures.rows

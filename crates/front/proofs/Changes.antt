@@ -1,7 +1,7 @@
 -- Functions changed at one argument, and options.
-use Rattle.std.proofs.Common.{◌≡◌, ℕ, ◌⊎◌, Some, None, Option, sym, refl, ap, ◌∙◌, inl, inr, ⊎_elim, arith}
+use Rattle.std.proofs.Common.{◌≡◌, ℕ, ◌⊎◌, Some, None, Option, sym, refl, ap, ◌∙◌, inl, inr, ⊎_elim}
 use Rattle.std.proofs.lemmas.Bool.{cases_eq, eq-eqb, ne_eqb}
-use Rattle.rows.specs.Links.{changed}
+use Rattle.front.specs.Places.{changed}
 
 -- two functions with equal values are equal
 pub equal : {X : Type 0} {f g : ℕ → X} → ((k : ℕ) → f k ≡ g k) → f ≡ g
@@ -19,7 +19,7 @@ changed_same f i x k h = ⊎_elim (λ e. changed_at f i x k e ∙ h ∙ ap f (sy
 
 -- no option is both none and some
 pub none_some : {X : Type 0} (o : Option X) (x : X) → o ≡ None → o ≡ Some x → ⊥
-none_some o x n s = let z : ◌≡◌ {A = ℕ} 0 1 = cc in omega arith
+none_some o x n s = cc
 
 pub cases_option : {X : Type 0} (o : Option X) → (o ≡ None) ⊎ ((x : X) × (o ≡ Some x))
 cases_option None = inl refl
