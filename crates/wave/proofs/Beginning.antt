@@ -1,6 +1,7 @@
 -- How a wave begins.
-use Rattle.std.proofs.Common.{◌≡◌, ℕ, ◌<◌, Bool, true, false, ◌⊎◌, List, get_or, Some, None, Option, sym, refl, ap, ◌∙◌, inl, inr, ⊎_elim, arith}
-use Rattle.std.proofs.lemmas.Bool.{both_ways, cases_eq}
+use Rattle.std.proofs.Common.{◌≡◌, ℕ, ◌<◌, Bool, true, false, ◌⊎◌, List, get_or, Some, None, Option, sym, refl, ap, ◌∙◌, length, replicate, inl, inr, ⊎_elim, arith}
+use Rattle.std.proofs.lemmas.List.{get_or-replicate, get_or_past, length-replicate}
+use Rattle.std.proofs.lemmas.Bool.{both_ways, cases_eq, cases_lt}
 use Rattle.tariff.specs.Rates.{Rates}
 use Rattle.front.specs.Queue.{Queue, Starts, Started}
 use Rattle.model.specs.Sheets.{Ground}
@@ -8,6 +9,13 @@ use Rattle.route.specs.Paths.{maze}
 use Rattle.route.specs.Queue.{Fresh}
 use Rattle.route.proofs.Order.{none_some, some_is}
 use Rattle.wave.specs.Offers.{state_of}
+
+-- a list of Nones has no Some
+pub none_at : {C : Type 0} (n : ℕ) (xs : List (Option C)) → xs ≡ replicate n None → (k : ℕ) → get_or xs k None ≡ None
+none_at {C} n xs e k = ⊎_elim
+    (λ l. ap (λ ys. get_or ys k None) e ∙ get_or-replicate {A = Option C} n k None None l)
+    (λ l. get_or_past xs k None (omega (arith, ap length e, length-replicate {A = Option C} n None)))
+    (cases_lt k n)
 
 module _ {C : Type 0} {t : Rates C} where
   -- a front that serves the place and the tariff is started

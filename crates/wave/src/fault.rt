@@ -1,6 +1,7 @@
 // Why a search refuses.
 ghost use Rattle.std.specs.Prelude.{◌≡◌};
 ghost use Rattle.wave.specs.declared.fault.SearchFault.TheVariants.{Sheet};
+ghost use Rattle.wave.specs.Questions.{search_refusal};
 
 use grid::SheetFault;
 
@@ -15,6 +16,32 @@ pub enum SearchFault {
     NoPath(u32),
     // 11: the path list does not hold the wire; names the wire's places
     ShortPath(u32),
+}
+
+impl SearchFault {
+    // The number of the refusal.
+    pub fn number(self) -> u32
+        ensures { result ≡ (search_refusal self).number }
+    {
+        match self {
+            SearchFault::Sheet(fault) => fault.number(),
+            SearchFault::NotServed(_) => 9,
+            SearchFault::NoPath(_) => 10,
+            SearchFault::ShortPath(_) => 11,
+        }
+    }
+
+    // The value that the refusal names.
+    pub fn named(self) -> u32
+        ensures { result ≡ (search_refusal self).named }
+    {
+        match self {
+            SearchFault::Sheet(fault) => fault.named(),
+            SearchFault::NotServed(value)
+            | SearchFault::NoPath(value)
+            | SearchFault::ShortPath(value) => value,
+        }
+    }
 }
 
 impl From<SheetFault> for SearchFault {

@@ -19,10 +19,10 @@ fn offer<G: Ground, T: Tariff, F: Front<T>>(
     front: &mut F,
 )
     requires inside { to < length labels.now }
-    requires served { to < (F.Front.view front.old).served }
-    requires order { F.Front.ordered front.old }
-    ensures order { F.Front.ordered front.new }
-    ensures offers { Offers T.Tariff.rates (G.Ground.meaning area.now) net labels.now (F.Front.view front.old) (F.Front.view front.new) (hop by to) }
+    requires served { to < (F.view front.old).served }
+    requires order { F.ordered front.old }
+    ensures order { F.ordered front.new }
+    ensures offers { Offers T.rates (G.meaning area.now) net labels.now (F.view front.old) (F.view front.new) (hop by to) }
 {
     if labels[to as usize].is_none() {
         if area.is_open(to, net) {
@@ -41,10 +41,10 @@ fn offer_all<G: Ground, T: Tariff, F: Front<T>>(
     front: &mut F,
 )
     requires sized { length labels.now ≡ count_of site.shape }
-    requires served { count_of site.shape ≤ (F.Front.view front.old).served }
-    requires order { F.Front.ordered front.old }
-    ensures order { F.Front.ordered front.new }
-    ensures offers { OffersAll T.Tariff.rates (G.Ground.meaning area.now) net labels.now (F.Front.view front.old) (F.Front.view front.new) (gather site.shape site.place list.now) }
+    requires served { count_of site.shape ≤ (F.view front.old).served }
+    requires order { F.ordered front.old }
+    ensures order { F.ordered front.new }
+    ensures offers { OffersAll T.rates (G.meaning area.now) net labels.now (F.view front.old) (F.view front.new) (gather site.shape site.place list.now) }
 {
     for direction in list {
         if let Some(to) = site.neighbour(*direction) {
@@ -64,10 +64,10 @@ pub(crate) fn offer_around<G: Ground, T: Tariff, F: Front<T>>(
 )
     requires inside { place < count_of shape }
     requires sized { length labels.now ≡ count_of shape }
-    requires served { count_of shape ≤ (F.Front.view front.old).served }
-    requires order { F.Front.ordered front.old }
-    ensures order { F.Front.ordered front.new }
-    ensures offers { OffersAll T.Tariff.rates (G.Ground.meaning area.now) net labels.now (F.Front.view front.old) (F.Front.view front.new) (around shape place) }
+    requires served { count_of shape ≤ (F.view front.old).served }
+    requires order { F.ordered front.old }
+    ensures order { F.ordered front.new }
+    ensures offers { OffersAll T.rates (G.meaning area.now) net labels.now (F.view front.old) (F.view front.new) (around shape place) }
 {
     let list = directions();
     if let Some(site) = shape.site(place) {

@@ -1,4 +1,5 @@
-use Rattle.wave.proofs.Beginning.{started, fresh_of}
+use Rattle.std.proofs.Common.{rules}
+use Rattle.wave.proofs.Beginning.{started, fresh_of, none_at}
 use Rattle.wave.proofs.spread.begin.Goals as goal
 
 pub returns : goal.returns
@@ -8,5 +9,5 @@ returns g c =
     record {
       order = c.start.ensures.ready r;
       served = s.serves.served;
-      fresh = λ m net o. fresh_of m net c.args.start q (g.F.Front.view c.start.new.self) c.clear.new.list o s c.clear.ensures;
+      fresh = λ m net o. fresh_of m net c.args.start q (g.F.Front.view c.start.new.self) c.fill.new.self o s (none_at _ _ (c.fill.ensures.after (λ y h. search rules)));
     }

@@ -46,8 +46,8 @@ loop-found-preserved g c = (
   onward (g.G.Ground.sound c.args.area.now) c.loop-found.invariant.1 c.in-Some.ensures.acts g.met.T.Tariff.laws c.shape-shape.ensures c.offer_around.ensures.offers,
 )
 
-pub returns-then-meets : goal.returns-then-meets
-returns-then-meets g c = arrived (g.G.Ground.sound c.args.area.now) c.loop-found.invariant.1 c.in-Some.ensures.acts c.args.goal g.met.T.Tariff.laws (sym c.meets.ensures ∙ c.if-meets.true)
+pub returns-then-eq : goal.returns-then-eq
+returns-then-eq g c = arrived (g.G.Ground.sound c.args.area.now) c.loop-found.invariant.1 c.in-Some.ensures.acts c.args.goal g.met.T.Tariff.laws (sym c.eq.ensures ∙ c.if-eq.true)
 
 pub returns : goal.returns
 returns g c = ended c.args.goal g.met.T.Tariff.laws c.loop-found.invariant.1 c.in_default.ensures.acts
