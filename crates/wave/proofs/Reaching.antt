@@ -51,11 +51,13 @@ module _ {C : Type 0} {t : Rates C} (laws : Laws t) (g : Ground) (sound : Sound 
   pub finished : {F : Type 0} (early : Option Refusal) (xs ys : List (Option C)) (f f' : F) (k n : ℕ) (o : Option C) (r : Result C SearchFault) → early ≡ None → k ≡ count_of g.shape →
       count_of g.shape ≤ length xs → length ys ≡ count_of g.shape → Spread t (maze g net start) (Some goal) ys n → o ≡ label_of ys goal → r ≡ ok_or o (NoPath goal) →
       (search_answered r ≡ found goal (label_of (labels t g net start) goal)) × SearchLeaves t g net start goal early xs (ys ++ post_of 0 k xs) f f' r
-  finished early xs ys f f' k n (Some c) r a ek enough size S e er =
-      (ap search_answered er ∙ sym (ap (found goal) (goal_least ys n c S (sym e))),
-      subst (λ z. SearchLeaves t g net start goal early xs (ys ++ post_of 0 k xs) f f' z) (sym er) (reached xs ys k n c ek enough size S (sym e)))
+  finished early xs ys f f' k n (Some c) r a ek enough size S e er = (
+    ap search_answered er ∙ sym (ap (found goal) (goal_least ys n c S (sym e))),
+    subst (λ z. SearchLeaves t g net start goal early xs (ys ++ post_of 0 k xs) f f' z) (sym er) (reached xs ys k n c ek enough size S (sym e)),
+  )
   finished early xs ys f f' k n None r a ek enough size S e er =
-      let all = S.whole (sym e) in
-      (ap search_answered er ∙ sym (ap (found goal) (label_least laws g sound net start goal ∙ sym (all goal) ∙ sym e)),
-      subst (λ z. SearchLeaves t g net start goal early xs (ys ++ post_of 0 k xs) f f' z) (sym er)
-          (leaves_whole t g net start early xs (ys ++ post_of 0 k xs) f f' a (whole_list laws g sound net start k xs ys ek size all)))
+      let all = S.whole (sym e) in (
+        ap search_answered er ∙ sym (ap (found goal) (label_least laws g sound net start goal ∙ sym (all goal) ∙ sym e)),
+        subst (λ z. SearchLeaves t g net start goal early xs (ys ++ post_of 0 k xs) f f' z) (sym er)
+            (leaves_whole t g net start early xs (ys ++ post_of 0 k xs) f f' a (whole_list laws g sound net start k xs ys ek size all)),
+      )

@@ -3,11 +3,13 @@
 // first of its questions that does not hold, and then changes nothing.
 #![tactic(auto)]
 
+pub mod connection;
 pub mod fault;
 pub mod labels;
 mod offer;
 pub mod spread;
 
+pub use connection::Connection;
 pub use fault::SearchFault;
 pub use labels::label_at;
 pub use spread::{search, wave};

@@ -1,33 +1,20 @@
 // The wave, and the search that stops at a goal.
-ghost use Rattle.std.specs.Prelude.{◌≡◌, ℕ, ◌<◌, ◌≤◌, true, length, None, Ok, slice_index_or};
+ghost use Rattle.std.specs.Prelude.{◌≡◌, true, length, Ok};
 ghost use Rattle.grid.specs.Places.{count_of};
-ghost use Rattle.model.specs.Sheets.{Ground as GroundMeaning};
 ghost use Rattle.route.specs.Paths.{maze, LabelsAreLeast, WireIsWire};
-ghost use Rattle.route.specs.Queue.{Fresh};
-ghost use Rattle.wave.specs.Offers.{state_of};
 ghost use Rattle.wave.specs.Spread.{Spread};
-ghost use Rattle.wave.specs.Questions.{search_answered, unless, refused_by, start_asks, wave_asks, wave_answer, WaveLeaves, search_asks, search_answer, SearchLeaves};
+ghost use Rattle.wave.specs.Questions.{search_answered, unless, refused_by, serves, start_asks, wave_asks, wave_answer, WaveLeaves, search_asks, search_answer, SearchLeaves};
 
+use super::connection::Connection;
 use super::fault::SearchFault;
 use super::labels::label_at;
-use super::offer::offer_around;
+use super::offer::Board;
 use front::Front;
 use sheet::{Ground, check_entries, check_net, check_open, check_place};
 use tariff::Tariff;
 
-// Takes the labels away, and lets the start wait.
-fn begin<T: Tariff, F: Front<T>>(start: u32, labels: &mut [Option<T::Cost>], front: &mut F)
-    requires place { start < (F.view front.old).served }
-    requires tariff { (F.view front.old).spans T.rates.span ≡ true }
-    ensures order { F.ordered front.new }
-    ensures served { (F.view front.new).served ≡ (F.view front.old).served }
-    ensures fresh { (g : GroundMeaning) (net : ℕ) → g.opened start net ≡ true → Fresh T.rates (maze g net start) (state_of labels.new (F.view front.new) 0) }
-{
-    labels.fill(None);
-    let _ = front.start(start);
-}
-
-// Takes what waits and labels it, until nothing waits or the goal is taken; how many places that is.
+// Takes every label away and lets the start wait, then takes what waits and labels it, until nothing waits or the goal is
+// taken; how many places that is.
 fn spread<G: Ground, T: Tariff, F: Front<T>>(
     area: &G,
     net: u16,
@@ -36,13 +23,14 @@ fn spread<G: Ground, T: Tariff, F: Front<T>>(
     labels: &mut [Option<T::Cost>],
     front: &mut F,
 ) -> u32
-    requires fresh { Fresh T.rates (maze (G.meaning area.now) net start) (state_of labels.old (F.view front.old) 0) }
     requires sized { length labels.old ≡ count_of (G.meaning area.now).shape }
-    requires served { count_of (G.meaning area.now).shape ≤ (F.view front.old).served }
-    requires order { F.ordered front.old }
+    requires served { serves T.rates (G.meaning area.now) (F.view front.old) ≡ true }
+    requires free { (G.meaning area.now).opened start net ≡ true }
     ensures { Spread T.rates (maze (G.meaning area.now) net start) goal labels.new result }
 {
     let shape = area.shape();
+    labels.fill(None);
+    let _ = front.start(start);
     let mut count = 0;
     while let Some(found) = front.take() {
         labels[found.place as usize] = Some(found.cost);
@@ -50,7 +38,13 @@ fn spread<G: Ground, T: Tariff, F: Front<T>>(
         if goal == Some(found.place) {
             return count;
         }
-        offer_around::<G, T, F>(area, net, shape, found.place, labels, front);
+        let board = Board {
+            area,
+            net,
+            shape,
+            labels,
+        };
+        board.offer_around(found.place, front);
     }
     count
 }
@@ -106,44 +100,45 @@ pub fn wave<G: Ground, T: Tariff, F: Front<T>>(
     check_wave::<G, T, F>(area, net, start, labels.len(), front)?;
     let places = area.shape().places() as usize;
     let board = &mut labels[0..places];
-    begin::<T, F>(start, board, front);
     Ok(spread::<G, T, F>(area, net, start, None, board, front))
 }
 
 // Asks what a search asks: the questions of a start, and whether the goal is open to the net (5).
 fn check_search<G: Ground, T: Tariff, F: Front<T>>(
     area: &G,
-    net: u16,
-    start: u32,
-    goal: u32,
+    connection: Connection,
     entries: usize,
     front: &F,
 ) -> Result<(), SearchFault>
-    ensures { search_answered result ≡ unless (refused_by (search_asks T.rates (G.meaning area.now) (F.view front.now) net start goal entries)) (Ok tt) }
+    ensures { search_answered result ≡ unless (refused_by (search_asks T.rates (G.meaning area.now) (F.view front.now) connection.net connection.start connection.goal entries)) (Ok tt) }
 {
-    check_start::<G, T, F>(area, net, start, entries, front)?;
-    Ok(check_open(area, goal, net)?)
+    check_start::<G, T, F>(area, connection.net, connection.start, entries, front)?;
+    Ok(check_open(area, connection.goal, connection.net)?)
 }
 
 // Searches from the start until the goal is taken, and answers the goal's least cost. Asks whether there is a label a place
 // (2), the front serves the tariff and the places (9), start and goal are open to the net (5), and there is a legal path (10).
 pub fn search<G: Ground, T: Tariff, F: Front<T>>(
     area: &G,
-    net: u16,
-    start: u32,
-    goal: u32,
+    connection: Connection,
     labels: &mut [Option<T::Cost>],
     front: &mut F,
 ) -> Result<T::Cost, SearchFault>
-    ensures answer { search_answered result ≡ search_answer T.rates (G.meaning area.now) (F.view front.old) net start goal (length labels.old) }
+    ensures answer { search_answered result ≡ search_answer T.rates (G.meaning area.now) (F.view front.old) connection.net connection.start connection.goal (length labels.old) }
     ensures least { LabelsAreLeast T.rates }
     ensures wire { WireIsWire T.rates }
-    ensures after { SearchLeaves T.rates (G.meaning area.now) net start goal (refused_by (search_asks T.rates (G.meaning area.now) (F.view front.old) net start goal (length labels.old))) labels.old labels.new front.old front.new result }
+    ensures after { SearchLeaves T.rates (G.meaning area.now) connection.net connection.start connection.goal (refused_by (search_asks T.rates (G.meaning area.now) (F.view front.old) connection.net connection.start connection.goal (length labels.old))) labels.old labels.new front.old front.new result }
 {
-    check_search::<G, T, F>(area, net, start, goal, labels.len(), front)?;
+    check_search::<G, T, F>(area, connection, labels.len(), front)?;
     let places = area.shape().places() as usize;
     let board = &mut labels[0..places];
-    begin::<T, F>(start, board, front);
-    let _ = spread::<G, T, F>(area, net, start, Some(goal), board, front);
-    label_at(board, goal).ok_or(SearchFault::NoPath(goal))
+    let _ = spread::<G, T, F>(
+        area,
+        connection.net,
+        connection.start,
+        Some(connection.goal),
+        board,
+        front,
+    );
+    label_at(board, connection.goal).ok_or(SearchFault::NoPath(connection.goal))
 }

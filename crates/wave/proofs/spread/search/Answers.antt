@@ -11,22 +11,15 @@ returns-in_err-check_search-clause-wire g c = wire_is_wire g.met.T.Tariff.laws
 pub returns-in_err-check_search-clause-least : goal.returns-in_err-check_search-clause-least
 returns-in_err-check_search-clause-least g c = labels_are_least g.met.T.Tariff.laws
 
-pub begin-requires : goal.begin-requires
-begin-requires g c =
-    let m = g.G.Ground.meaning c.args.area.now in
-    let (a, open-goal) = search_allowed g.T.Tariff.rates m (g.F.Front.view c.args.front.now) c.args.net c.args.start c.args.goal (length c.args.labels.now) (g.G.Ground.sound c.args.area.now) (granted _ c.in_ok-check_search.ensures) in
-    record { place = omega (arith, a.inside, a.reached); tariff = a.tariff }
-
 pub spread-requires : goal.spread-requires
 spread-requires g c =
     let m = g.G.Ground.meaning c.args.area.now in
-    let (a, open-goal) = search_allowed g.T.Tariff.rates m (g.F.Front.view c.args.front.now) c.args.net c.args.start c.args.goal (length c.args.labels.now) (g.G.Ground.sound c.args.area.now) (granted _ c.in_ok-check_search.ensures) in
+    let a = search_allowed g.T.Tariff.rates m (g.F.Front.view c.args.front.now) c.args.connection.net c.args.connection.start c.args.connection.goal (length c.args.labels.now) (granted _ c.in_ok-check_search.ensures) in
     let e : c.places-places.result ≡ count_of m.shape = c.places-places.ensures.is ∙ ap count_of c.shape.ensures in
     record {
-      fresh = c.begin.ensures.fresh m c.args.net a.free;
-      sized = front_size _ _ _ _ a.enough e c.begin.auto.labels;
-      served = omega (arith, c.begin.ensures.served, a.reached);
-      order = c.begin.ensures.order;
+      sized = front_size _ _ _ a.enough e;
+      served = a.served;
+      free = a.free;
     }
 
 pub returns : goal.returns
@@ -35,10 +28,10 @@ returns g c =
     let sound = g.G.Ground.sound c.args.area.now in
     let laws = g.met.T.Tariff.laws in
     let o = granted _ c.in_ok-check_search.ensures in
-    let (a, open-goal) = search_allowed g.T.Tariff.rates m (g.F.Front.view c.args.front.now) c.args.net c.args.start c.args.goal (length c.args.labels.now) sound o in
+    let a = search_allowed g.T.Tariff.rates m (g.F.Front.view c.args.front.now) c.args.connection.net c.args.connection.start c.args.connection.goal (length c.args.labels.now) o in
     let e : c.places-places.result ≡ count_of m.shape = c.places-places.ensures.is ∙ ap count_of c.shape.ensures in
-    let size : length c.spread.new.labels ≡ count_of m.shape = c.spread.auto.labels ∙ front_size _ _ _ _ a.enough e c.begin.auto.labels in
+    let size : length c.spread.new.labels ≡ count_of m.shape = c.spread.auto.labels ∙ front_size _ _ _ a.enough e in
     let k : c.places-places.result - 0 ≡ count_of m.shape = omega arith in
-    let (answer, after) = finished laws m sound c.args.net c.args.start c.args.goal _ c.args.labels.now c.spread.new.labels c.args.front.now c.spread.new.front (c.places-places.result - 0) c.spread.result
-        c.label_at.result c.ok_or.result o k a.enough size c.spread.ensures c.label_at.ensures c.ok_or.ensures.value in
+    let (answer, after) = finished laws m sound c.args.connection.net c.args.connection.start c.args.connection.goal _ c.args.labels.now c.spread.new.labels c.args.front.now c.spread.new.front (c.places-places.result - 0) c.spread.result
+    c.label_at.result c.ok_or.result o k a.enough size c.spread.ensures c.label_at.ensures c.ok_or.ensures.value in
     record { answer = answer ∙ unless_none _ _ o; least = labels_are_least laws; wire = wire_is_wire laws; after = after }

@@ -14,10 +14,9 @@ spread-requires g c =
     let a = wave_allowed g.T.Tariff.rates m (g.F.Front.view c.args.front.now) c.args.net c.args.start (length c.args.labels.now) (granted _ c.in_ok-check_wave.ensures) in
     let e : c.places-places.result ≡ count_of m.shape = c.places-places.ensures.is ∙ ap count_of c.shape.ensures in
     record {
-      fresh = c.begin.ensures.fresh m c.args.net a.free;
-      sized = front_size _ _ _ _ a.enough e c.begin.auto.labels;
-      served = omega (arith, c.begin.ensures.served, a.reached);
-      order = c.begin.ensures.order;
+      sized = front_size _ _ _ a.enough e;
+      served = a.served;
+      free = a.free;
     }
 
 pub returns : goal.returns
@@ -28,7 +27,7 @@ returns g c =
     let o = granted _ c.in_ok-check_wave.ensures in
     let a = wave_allowed g.T.Tariff.rates m (g.F.Front.view c.args.front.now) c.args.net c.args.start (length c.args.labels.now) o in
     let e : c.places-places.result ≡ count_of m.shape = c.places-places.ensures.is ∙ ap count_of c.shape.ensures in
-    let size : length c.spread.new.labels ≡ count_of m.shape = c.spread.auto.labels ∙ front_size _ _ _ _ a.enough e c.begin.auto.labels in
+    let size : length c.spread.new.labels ≡ count_of m.shape = c.spread.auto.labels ∙ front_size _ _ _ a.enough e in
     let k : c.places-places.result - 0 ≡ count_of m.shape = omega arith in
     let all = c.spread.ensures.whole tt in
     record {
