@@ -1,15 +1,17 @@
 -- What a wide sheet keeps, and what a write to its list does.
-use Rattle.std.proofs.Common.{◌≡◌, ℕ, ◌+◌, ◌-◌, ◌<◌, ◌≤◌, min, true, cond, eqb, ltb, leb, ◌⊎◌, List, [], ◌∷◌, length, get_or, drop, set, replicate, Ok, sym, refl, ap, ◌∙◌, ⊎_elim, arith, length-set}
+use Rattle.std.specs.List.{filter}
+use Rattle.std.proofs.Common.{◌≡◌, ℕ, zero, suc, ◌+◌, ◌-◌, ◌<◌, ◌≤◌, min, Bool, true, cond, eqb, ltb, leb, ◌⊎◌, List, [], ◌∷◌, length, get_or, take, drop, set, replicate, Ok, sym, refl, ap, ◌∙◌, ⊎_elim, add-one, arith, length-set, length-take, get_or-take}
 use Rattle.std.proofs.lemmas.List.{get_or-set_same, get_or-set_other, drop-set-lt, drop_at, length-append, length-replicate, length-drop, get_or_append_left, get_or-append_right, get_or-replicate, get_or-drop, get_or_past, ext_get_or}
-use Rattle.std.proofs.lemmas.Bool.{cases_eq, cases_lt, lt-ltb, le-ltb, le-leb, cond-true, cond-false, cases_cond, eq-eqb, ne_eqb, lt-leb}
+use Rattle.std.proofs.lemmas.List.Filters.{length-filter_more}
+use Rattle.std.proofs.lemmas.Bool.{cases_eq, cases_lt, lt-ltb, le-ltb, le-leb, cond-true, cond-false, cases_cond, ne_eqb}
 use Rattle.std.proofs.lemmas.Bool.Decides.{nat_tests}
 use Rattle.grid.specs.declared.shape.Shape.{Shape}
 use Rattle.grid.specs.Places.{count_of}
 use Rattle.model.specs.Entries.{served}
-use Rattle.model.specs.Sheets.{Sound, Tied, Wrote, StaysOpen, is_net, tally, spare, bare_at, Wiped, lay_answer, lift_answer, bar_answer, Held}
+use Rattle.model.specs.Sheets.{Sound, Small, Tied, Wrote, StaysOpen, is_net, tally, spare, bare_at, Wiped, lay_answer, lift_answer, bar_answer, Held}
 use Rattle.model.specs.Wide.{wide_ground, wide_metal, wide_sheet, wide_rest, wide_held, zeroed, Made, Told}
 use Rattle.model.proofs.Calls.{lay_ok, lift_ok, bar_ok}
-use Rattle.model.proofs.Tallies.{one, bare_or_one, tally_none, tally_more, tally_rise, tally_most, tally_all_bare, tally_below}
+use Rattle.model.proofs.Tallies.{one, bare_or_one, tally_none, tally_more, tally_most, tally_all_bare, tally_below}
 
 pub served_all : {A : Type 0} (s : Shape) (xs : List A) → count_of s ≤ length xs → served s xs ≡ count_of s
 served_all s xs h = cond-true (leb (count_of s) (length xs)) (count_of s) 0 (le-leb (count_of s) (length xs) h)
@@ -24,11 +26,11 @@ served_most s xs = (grind (arith, nat_tests), grind (arith, nat_tests))
 pub wide_sound : (s : Shape) (xs : List ℕ) → Sound (wide_ground s xs)
 wide_sound s xs = record { inside = λ p n h. grind (arith, nat_tests); nets = λ p n h. grind (arith, nat_tests) }
 
--- the laws of every sheet, where the entries are 16-bit numbers
-pub wide_tied : (s : Shape) (xs : List ℕ) → ((p : ℕ) → get_or xs p 0 ≤ 65535) → Tied (wide_sheet s xs)
-wide_tied s xs fits = record {
+-- the laws of every sheet
+pub wide_tied : (s : Shape) (xs : List ℕ) → Small (wide_sheet s xs) → Tied (wide_sheet s xs)
+wide_tied s xs small = record {
   free = λ p n h. grind (arith, nat_tests);
-  small = λ p. let k = fits p in grind (arith, nat_tests);
+  small = small;
   outside = λ p h. grind (arith, nat_tests);
   within =
       ⊎_elim
@@ -40,6 +42,14 @@ wide_tied s xs fits = record {
 -- a place that the list serves
 pub wide_copper : (s : Shape) (xs : List ℕ) (p : ℕ) → p < served s xs → (wide_metal s xs).copper p ≡ get_or xs p 0
 wide_copper s xs p h = cond-true (ltb p (served s xs)) (get_or xs p 0) 0 (lt-ltb p (served s xs) h)
+
+-- so copper is at most 65,535 if those entries are
+pub entries_small : (s : Shape) (xs : List ℕ) → ((p : ℕ) → get_or (take (served s xs) xs) p 0 ≤ 65535) → Small (wide_sheet s xs)
+entries_small s xs h p =
+    ⊎_elim
+    (λ (l : p < served s xs). let k = h p in let e = get_or-take (served s xs) xs p 0 l in omega (arith, wide_copper s xs p l))
+    (λ (l : served s xs ≤ p). grind (arith, nat_tests))
+    (cases_lt p (served s xs))
 
 held_same : (s : Shape) (loan : ℕ) (xs ys : List ℕ) → wide_rest s ys ≡ wide_rest s xs → wide_held s loan ys ≡ wide_held s loan xs
 held_same s loan xs ys e = ap {B = Held} (λ (zs : List ℕ). record { loans = loan ∷ []; rest = zs }) e
@@ -115,11 +125,11 @@ module _ (s : Shape) (xs : List ℕ) (p : ℕ) where
   pub wide_bars : p < served s xs → (wide_metal s xs).copper p ≡ 0 → Ok tt ≡ bar_answer (wide_sheet s xs) p
   wide_bars l z = sym (bar_ok (wide_sheet s xs) p (served_inside l) z (wide_spare s xs p l))
 
--- THE SPARE, counted place by place: of those needed, so many are missing after the first i places
-abbrev pub Counted : Shape → List ℕ → ℕ → ℕ → ℕ → Type 0
-Counted s xs needed missing i = missing + i ≡ needed + tally (wide_metal s xs).copper i
+-- THE SPARE is the number of entries that are 0 and serve places
+abbrev bare : ℕ → Bool
+bare v = eqb v 0
 
-module _ (s : Shape) (xs : List ℕ) (needed : ℕ) where
+module _ (s : Shape) (xs : List ℕ) where
   spare_is : spare (wide_sheet s xs) ≡ served s xs - tally (wide_metal s xs).copper (served s xs)
   spare_is =
       ⊎_elim
@@ -127,29 +137,23 @@ module _ (s : Shape) (xs : List ℕ) (needed : ℕ) where
       (λ (short : served s xs ≡ 0). omega arith)
       (cases_cond (leb (count_of s) (length xs)) (count_of s) 0 (served s xs) refl)
 
-  pub counted_none : Counted s xs needed needed 0
-  counted_none = omega (arith, tally_none (wide_metal s xs).copper)
-
-  pub counted_more : (missing i more : ℕ) → i < served s xs → (missing ≡ 0 → ⊥) → more ≡ missing - cond (eqb (get_or xs i 0) 0) 1 0 → Counted s xs needed missing i → Counted s xs needed more (i + 1)
-  counted_more missing i more l m e h =
-      let t : tally (wide_metal s xs).copper (i + 1) ≡ one (get_or xs i 0) + tally (wide_metal s xs).copper i =
-      tally_more (wide_metal s xs).copper i ∙ ap (λ (v : ℕ). one v + tally (wide_metal s xs).copper i) (wide_copper s xs i l) in
+  bare_first : (i : ℕ) → i ≤ served s xs → length (filter bare (take i xs)) + tally (wide_metal s xs).copper i ≡ i
+  bare_first zero l = omega (arith, tally_none (wide_metal s xs).copper)
+  bare_first (suc i) l =
+      let before = bare_first i (omega arith) in
+      let more = rw add-one at (length-filter_more bare xs i 0 (omega (arith, (served_most s xs).1))) in
+      let t : tally (wide_metal s xs).copper (suc i) ≡ one (get_or xs i 0) + tally (wide_metal s xs).copper i =
+      rw add-one at (tally_more (wide_metal s xs).copper i) ∙ ap (λ (v : ℕ). one v + tally (wide_metal s xs).copper i) (wide_copper s xs i (omega arith)) in
       omega (arith, bare_or_one (get_or xs i 0))
 
-  pub counted_soon : (i : ℕ) → i ≤ served s xs → Counted s xs needed 0 i → true ≡ leb needed (spare (wide_sheet s xs))
-  counted_soon i l h =
-      let e : i + (served s xs - i) ≡ served s xs = omega arith in
-      let rise : tally (wide_metal s xs).copper (served s xs) ≤ tally (wide_metal s xs).copper i + (served s xs - i) = rw e at (tally_rise (wide_metal s xs).copper i (served s xs - i)) in
-      sym (le-leb needed (spare (wide_sheet s xs)) (omega (arith, spare_is)))
-
-  pub counted_all : (missing : ℕ) → Counted s xs needed missing (served s xs) → eqb missing 0 ≡ leb needed (spare (wide_sheet s xs))
-  counted_all missing h =
-      let most = tally_most (wide_metal s xs).copper (served s xs) in
-      let e = spare_is in
-      ⊎_elim
-      (λ (none : missing ≡ 0). eq-eqb missing 0 none ∙ sym (le-leb needed (spare (wide_sheet s xs)) (omega arith)))
-      (λ (some : missing ≡ 0 → ⊥). ne_eqb missing 0 some ∙ sym (lt-leb needed (spare (wide_sheet s xs)) (grind arith)))
-      (cases_eq missing 0)
+  -- so it covers those needed if as many are found
+  pub spare_counted : (needed : ℕ) → eqb (length (take needed (filter bare (take (served s xs) xs)))) needed ≡ leb needed (spare (wide_sheet s xs))
+  spare_counted needed =
+      let n = length (filter bare (take (served s xs) xs)) in
+      let all = bare_first (served s xs) (omega arith) in
+      let found : length (take needed (filter bare (take (served s xs) xs))) ≡ min needed n = length-take needed _ in
+      let e : spare (wide_sheet s xs) ≡ n = omega (arith, spare_is) in
+      rw (found, e) (grind (arith, nat_tests))
 
 -- a list that starts with so many zeros
 module _ (n : ℕ) (xs : List ℕ) (in' : n ≤ length xs) where

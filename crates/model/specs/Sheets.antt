@@ -44,12 +44,16 @@ tally f (suc n) = cond (f n == 0) 0 1 + tally f n
 abbrev pub spare : Sheet → ℕ
 spare b = b.metal.limit - tally b.metal.copper (places b)
 
+-- copper is at most 65,535
+abbrev pub Small : Sheet → Type 0
+Small b = (p : ℕ) → b.metal.copper p ≤ 65535
+
 -- WHAT EVERY SHEET KEEPS, as the copper question shows
 pub record Tied (b : Sheet) : Type 0 where
   -- a place open to a net is bare or carries that net
   pub free : (p n : ℕ) → b.area.opened p n ≡ true → (b.metal.copper p ≡ 0) ⊎ (b.metal.copper p ≡ n)
-  -- copper is at most 65,535, and there is none outside the shape
-  pub small : (p : ℕ) → b.metal.copper p ≤ 65535
+  pub small : Small b
+  -- there is no copper outside the shape
   pub outside : (p : ℕ) → places b ≤ p → b.metal.copper p ≡ 0
   -- no more places than the limit are not bare
   pub within : tally b.metal.copper (places b) ≤ b.metal.limit

@@ -1,17 +1,24 @@
 // The questions that all sheets, and all who search on a ground, ask first.
-ghost use Rattle.std.specs.Prelude.{◌≡◌, Ok, nat_le, nat_lt};
+ghost use Rattle.std.specs.Prelude.{◌≡◌, Ok, ◌==◌, nat_le, nat_lt};
 ghost use Rattle.grid.specs.Faults.{refusal};
 ghost use Rattle.grid.specs.Places.{count_of};
 ghost use Rattle.model.specs.Sheets.{answered, ask, is_net};
 
-use super::Ground;
+use super::{Ground, Sheet};
 use grid::{Shape, SheetFault};
 
-// Asks whether the number is a net's, 1 to 65,534 (4).
+// Whether a number is a net's, 1 to 65,534.
+pub fn is_net(net: u16) -> bool
+    ensures { result ≡ is_net net }
+{
+    (1..=65534).contains(&net)
+}
+
+// Asks whether the number is a net's (4).
 pub fn check_net(net: u16) -> Result<(), SheetFault>
     ensures { answered result ≡ ask (is_net net) (refusal 4 net) (Ok tt) }
 {
-    if (1..=65534).contains(&net) {
+    if is_net(net) {
         Ok(())
     } else {
         Err(SheetFault::NoNet(u32::from(net)))
@@ -50,4 +57,11 @@ pub fn check_open<G: Ground>(area: &G, place: u32, net: u16) -> Result<(), Sheet
     } else {
         Err(SheetFault::Closed(place))
     }
+}
+
+// Whether a place is bare. There is no copper outside the shape.
+pub fn is_bare<S: Sheet>(sheet: &S, place: u32) -> bool
+    ensures { result ≡ ((S.board sheet.now).metal.copper place == 0) }
+{
+    sheet.copper(place).unwrap_or(0) == 0
 }

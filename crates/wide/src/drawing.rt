@@ -3,9 +3,9 @@ ghost use Rattle.std.specs.Prelude.{◌≡◌};
 ghost use Rattle.model.proofs.DrawnLaws.{drawn_sound};
 ghost use Rattle.model.specs.Drawn.{drawn_ground};
 
-use super::entries::{is_net, places_served};
+use super::entries::entries_served;
 use grid::Shape;
-use sheet::Ground;
+use sheet::{Ground, is_net};
 
 // A ground over a lent list of one byte a place: 0 is open to all nets, any other byte is closed. Nothing is open on a
 // list that has fewer entries than there are places.
@@ -34,8 +34,9 @@ impl<'a> Ground for Drawing<'a> {
     }
 
     fn is_open(&self, place: u32, net: u16) -> bool {
-        place < places_served(self.shape, self.cells)
-            && is_net(net)
-            && self.cells[place as usize] == 0
+        is_net(net)
+            && entries_served(self.shape, self.cells)
+                .get(place as usize)
+                .is_some_and(|cell| *cell == 0)
     }
 }

@@ -1,7 +1,7 @@
 // Lists that have one entry a place.
-ghost use Rattle.std.specs.Prelude.{◌≡◌};
+ghost use Rattle.std.specs.Prelude.{◌≡◌, take};
 ghost use Rattle.model.specs.Entries.{served, entries_answer};
-ghost use Rattle.model.specs.Sheets.{answered, is_net};
+ghost use Rattle.model.specs.Sheets.{answered};
 
 use grid::{Shape, SheetFault};
 
@@ -9,28 +9,12 @@ use grid::{Shape, SheetFault};
 pub fn check_entries<E>(shape: Shape, list: &[E]) -> Result<(), SheetFault>
     ensures { answered result ≡ entries_answer shape list.now }
 {
-    let places = shape.places();
-    if list.len() < places as usize {
-        return Err(SheetFault::ShortList(places));
-    }
-    Ok(())
+    sheet::check_entries(shape, list.len())
 }
 
-// How many places a list serves: all of them if it has an entry for each, else none.
-pub(crate) fn places_served<E>(shape: Shape, list: &[E]) -> u32
-    ensures { result ≡ served shape list.now }
+// The entries that serve places: one for each place, or none if the list has fewer.
+pub(crate) fn entries_served<E>(shape: Shape, list: &[E]) -> &[E]
+    ensures { result.now ≡ take (served shape list.now) list.now }
 {
-    let places = shape.places();
-    if list.len() < places as usize {
-        0
-    } else {
-        places
-    }
-}
-
-// Whether a number is a net's.
-pub(crate) fn is_net(net: u16) -> bool
-    ensures { result ≡ is_net net }
-{
-    net >= 1 && net <= 65534
+    list.get(..shape.places() as usize).unwrap_or(&[])
 }
