@@ -2,12 +2,13 @@
 use Rattle.std.proofs.Common.{◌≡◌, ℕ, ◌+◌, Bool, ◌&&◌, ltb, ◌↔◌, Some, None, Option, sym, ◌∙◌, inl, inr, ⊎_elim, arith}
 use Rattle.std.proofs.lemmas.Bool.{cases_eq, ltb-true, lt-ltb, and_parts, and_from, cases_Bool, cond-true, cond-false}
 use Rattle.std.proofs.lemmas.Bool.Decides.{nat_tests}
+use Rattle.std.specs.Int.{abs_diff}
 use Rattle.grid.specs.declared.shape.Shape.{Shape}
 use Rattle.grid.specs.declared.shape.Coordinates.{Coordinates}
 use Rattle.grid.specs.declared.step.Step.{Step}
 use Rattle.grid.specs.declared.step.Step.TheVariants.{Straight, Diagonal, Via}
 use Rattle.grid.specs.Places.{count_of, coordinates_of}
-use Rattle.grid.specs.Steps.{Beside, Meets, Joins, gap, kind_of_gaps, kind_between, step_between}
+use Rattle.grid.specs.Steps.{Beside, Meets, Joins, kind_of_gaps, kind_between, step_between}
 use Rattle.grid.proofs.Numbering.{some_none}
 
 -- the gaps of each kind of step
@@ -26,22 +27,22 @@ kind_from Straight c r l g = grind (arith, nat_tests)
 kind_from Diagonal c r l g = grind (arith, nat_tests)
 kind_from Via c r l g = grind (arith, nat_tests)
 
-gap_none : (x y : ℕ) → gap x y ≡ 0 → x ≡ y
+gap_none : (x y : ℕ) → abs_diff x y ≡ 0 → x ≡ y
 gap_none x y e = omega arith
 
-gap_one : (x y : ℕ) → gap x y ≡ 1 → Beside x y
+gap_one : (x y : ℕ) → abs_diff x y ≡ 1 → Beside x y
 gap_one x y e = ⊎_elim (λ h. inl h) (λ h. inr (omega arith)) (cases_eq x (y + 1))
 
-none_gap : (x y : ℕ) → x ≡ y → gap x y ≡ 0
+none_gap : (x y : ℕ) → x ≡ y → abs_diff x y ≡ 0
 none_gap x y e = omega arith
 
-one_gap : (x y : ℕ) → Beside x y → gap x y ≡ 1
+one_gap : (x y : ℕ) → Beside x y → abs_diff x y ≡ 1
 one_gap x y (inl e) = omega arith
 one_gap x y (inr e) = omega arith
 
 module _ (x y : Coordinates) where
   abbrev At : Step → Type 0
-  At k = Gaps k (gap x.column y.column) (gap x.row y.row) (gap x.layer y.layer)
+  At k = Gaps k (abs_diff x.column y.column) (abs_diff x.row y.row) (abs_diff x.layer y.layer)
 
   meets_from : (k : Step) → At k → Meets k x y
   meets_from Straight (l, g) = (
@@ -49,7 +50,7 @@ module _ (x y : Coordinates) where
     ⊎_elim
         (λ e. inr (gap_none _ _ e, gap_one _ _ (omega arith)))
         (λ e. inl (gap_none _ _ (omega arith), gap_one _ _ (omega arith)))
-        (cases_eq (gap x.column y.column) 0),
+        (cases_eq (abs_diff x.column y.column) 0),
   )
   meets_from Diagonal (l, c, r) = (gap_none _ _ l, gap_one _ _ c, gap_one _ _ r)
   meets_from Via (l, c, r) = (gap_none _ _ c, gap_none _ _ r, gap_one _ _ l)

@@ -1,6 +1,5 @@
 -- The neighbours of a place, by strides on its number.
-use Rattle.std.proofs.Common.{◌≡◌, ℕ, ◌+◌, ◌-◌, ◌*◌, ◌<◌, ◌≤◌, ltb, Some, None, Option, sym, refl, ap, ◌∙◌, subst, ⊎_elim, mul_comm, add-mul, arith}
-use Rattle.std.proofs.lemmas.Nat.{mul-le}
+use Rattle.std.proofs.Common.{◌≡◌, ℕ, ◌+◌, ◌-◌, ◌*◌, ◌<◌, ltb, Some, None, Option, sym, refl, ap, ◌∙◌, subst, ⊎_elim, mul_comm, add-mul, arith}
 use Rattle.std.proofs.lemmas.Bool.{cases_lt, lt-ltb, le-ltb, cond-true, cond-false}
 use Rattle.grid.specs.declared.shape.Shape.{Shape}
 use Rattle.grid.specs.declared.shape.Coordinates.{Coordinates}
@@ -8,8 +7,8 @@ use Rattle.grid.specs.declared.site.Site.{Site}
 use Rattle.grid.specs.declared.step.Direction.{Direction}
 use Rattle.grid.specs.Places.{count_of, coordinates, Inside, number_of, coordinates_of}
 use Rattle.grid.specs.Steps.{Move, Back, Stay, Forth, Way, way, moved, number_at, beyond, neighbour_of}
-use Rattle.grid.specs.Strides.{stride_back, stride_forth, slide, strides}
-use Rattle.grid.proofs.Numbering.{some_none, number_below, count_most, coordinates_at}
+use Rattle.grid.specs.Strides.{slide, strides}
+use Rattle.grid.proofs.Numbering.{number_below, count_most, coordinates_at}
 
 pub inside_site : (x : Site) → Inside x.shape x.at
 inside_site x = record { column = x.inside.0; row = x.inside.1; layer = x.inside.2 }
@@ -31,34 +30,8 @@ layer_stride s c r l =
     line : (l r : ℕ) → (l + 1) * s.rows + r ≡ l * s.rows + r + s.rows
     line l r = omega (arith, add-mul l 1 s.rows)
 
--- what the strides are, at a place
-pub record Reach (x : Site) : Type 0 where
-  pub small : x.place < 2097152
-  pub wide : x.shape.columns ≤ 512
-  pub flat : x.shape.columns * x.shape.rows ≤ 262144
-  pub column : x.at.column ≤ x.place
-  pub row : 0 < x.at.row → x.shape.columns + x.at.column ≤ x.place
-  pub layer : 0 < x.at.layer → x.shape.columns * x.shape.rows ≤ x.place
-
-pub reach : (x : Site) → Reach x
-reach x = record {
-  small = omega (arith, site_below x, count_most x.shape);
-  wide = x.shape.wide.1;
-  flat = mul-le x.shape.columns x.shape.rows 512 512 x.shape.wide.1 x.shape.tall.1;
-  column = omega (arith, x.numbered);
-  row = λ h. up_row x.at.row h x.numbered;
-  layer = λ h. up_layer x.at.layer h x.numbered;
-}
-  where
-    up_row : (r : ℕ) → 0 < r → x.place ≡ number_of x.shape (coordinates x.at.column r x.at.layer) → x.shape.columns + x.at.column ≤ x.place
-    up_row r h e =
-        let k : r ≡ (r - 1) + 1 = omega arith in
-        omega (arith, e, ap (λ n. number_of x.shape (coordinates x.at.column n x.at.layer)) k, row_stride x.shape x.at.column (r - 1) x.at.layer)
-
-    up_layer : (l : ℕ) → 0 < l → x.place ≡ number_of x.shape (coordinates x.at.column x.at.row l) → x.shape.columns * x.shape.rows ≤ x.place
-    up_layer l h e =
-        let k : l ≡ (l - 1) + 1 = omega arith in
-        omega (arith, e, ap (λ n. number_of x.shape (coordinates x.at.column x.at.row n)) k, layer_stride x.shape x.at.column x.at.row (l - 1))
+pub site_small : (x : Site) → x.place < 2097152
+site_small x = omega (arith, site_below x, count_most x.shape)
 
 abbrev onto : (ℕ → ℕ) → Option ℕ → Option ℕ
 onto f None = None
@@ -123,24 +96,10 @@ module _ (s : Shape) where
       out (Some k) = along k x.row x.layer w.along w.through
 
 -- A place's neighbour is found by strides.
-pub neighbour_strides : (x : Site) (d e : Direction) → d ≡ e → strides x.shape x.at x.place (way e) ≡ neighbour_of x.shape x.place d
+pub neighbour_strides : (x : Site) (d : Direction) → neighbour_of x.shape x.place d ≡ strides x.shape x.at x.place (way d)
 unfolding neighbour_of
-neighbour_strides x d e same =
-    ap (λ p. strides x.shape x.at p (way e)) x.numbered ∙
-    across x.shape x.at (way e) ∙
-    ap (λ y. beyond x.shape y (way e)) (sym (coordinates_at x.shape x.at (inside_site x)) ∙ ap (coordinates_of x.shape) (sym x.numbered)) ∙
-    ap (λ k. beyond x.shape (coordinates_of x.shape x.place) (way k)) (sym same) ∙
-    sym (cond-true (ltb x.place (count_of x.shape)) _ _ (lt-ltb _ _ (site_below x)))
-
--- what an answer of a stride is
-pub back_some : (x p stride q : ℕ) → stride_back x p stride ≡ Some q → (0 < x) × (q ≡ p - stride)
-back_some x p stride q e = ⊎_elim
-    (λ h. let f : Some (p - stride) ≡ Some q = sym (cond-true (ltb 0 x) _ _ (lt-ltb 0 x h)) ∙ e in (h, cc))
-    (λ h. let f : None ≡ Some q = sym (cond-false (ltb 0 x) _ _ (le-ltb 0 x h)) ∙ e in some_none (sym f))
-    (cases_lt 0 x)
-
-pub forth_some : (x bound p stride q : ℕ) → stride_forth x bound p stride ≡ Some q → q ≡ p + stride
-forth_some x bound p stride q e = ⊎_elim
-    (λ h. let f : Some (p + stride) ≡ Some q = sym (cond-true (ltb (x + 1) bound) _ _ (lt-ltb (x + 1) bound h)) ∙ e in cc)
-    (λ h. let f : None ≡ Some q = sym (cond-false (ltb (x + 1) bound) _ _ (le-ltb (x + 1) bound h)) ∙ e in some_none (sym f))
-    (cases_lt (x + 1) bound)
+neighbour_strides x d =
+    cond-true (ltb x.place (count_of x.shape)) _ _ (lt-ltb _ _ (site_below x)) ∙
+    ap (λ y. beyond x.shape y (way d)) (ap (coordinates_of x.shape) x.numbered ∙ coordinates_at x.shape x.at (inside_site x)) ∙
+    sym (across x.shape x.at (way d)) ∙
+    ap (λ p. strides x.shape x.at p (way d)) (sym x.numbered)

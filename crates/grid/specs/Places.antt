@@ -1,5 +1,5 @@
 -- The places of a shape, and their numbers.
-use Rattle.std.specs.Prelude.{◌≡◌, ℕ, ◌+◌, ◌*◌, ◌/◌, ◌%◌, ◌<◌, Bool, cond, ◌&&◌, Some, None, Option, nat_lt}
+use Rattle.std.specs.Prelude.{◌≡◌, ℕ, ◌+◌, ◌*◌, ◌/◌, ◌%◌, ◌<◌, Bool, if◌then◌else◌, ◌&&◌, Some, None, Option, nat_lt}
 use Rattle.grid.specs.declared.shape.Shape.{Shape}
 use Rattle.grid.specs.declared.shape.Coordinates.{Coordinates}
 
@@ -38,10 +38,10 @@ coordinates_of s p = coordinates (column_of s p) (row_of s p) (layer_of s p)
 
 -- what is asked of a shape: absent outside it
 abbrev pub number_answer : Shape → Coordinates → Option ℕ
-number_answer s x = cond (is_inside s x) (Some (number_of s x)) None
+number_answer s x = if is_inside s x then Some (number_of s x) else None
 
 abbrev pub coordinates_answer : Shape → ℕ → Option Coordinates
-coordinates_answer s p = cond (nat_lt p (count_of s)) (Some (coordinates_of s p)) None
+coordinates_answer s p = if nat_lt p (count_of s) then Some (coordinates_of s p) else None
 
 -- THE NUMBERING IS ONE-TO-ONE between the places of the shape and the numbers below their count
 pub record OneToOne (s : Shape) : Type 0 where

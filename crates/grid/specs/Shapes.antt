@@ -1,5 +1,5 @@
 -- What the making of a shape answers.
-use Rattle.std.specs.Prelude.{ℕ, Bool, cond, ◌&&◌, Ok, Err, Result, nat_le}
+use Rattle.std.specs.Prelude.{ℕ, Bool, if◌then◌else◌, ◌&&◌, Ok, Err, Result, nat_le}
 use Rattle.grid.specs.declared.shape.Shape.{Shape}
 use Rattle.grid.specs.declared.fault.SheetFault.{SheetFault}
 use Rattle.grid.specs.Faults.{Refusal, refusal, sheet_refusal}
@@ -24,4 +24,4 @@ ranges x most = nat_le 1 x && nat_le x most
 
 -- 1 to 512 columns, 1 to 512 rows, 1 to 8 layers; else refusal 1, which names 0
 abbrev pub shape_answer : ℕ → ℕ → ℕ → Result Size Refusal
-shape_answer c r l = cond (ranges c 512 && (ranges r 512 && ranges l 8)) (Ok (size c r l)) (Err (refusal 1 0))
+shape_answer c r l = if ranges c 512 && (ranges r 512 && ranges l 8) then Ok (size c r l) else Err (refusal 1 0)

@@ -1,5 +1,6 @@
 -- Which places a step joins, and the ten directions in which steps go.
-use Rattle.std.specs.Prelude.{◌≡◌, ℕ, ◌+◌, ◌-◌, ◌<◌, cond, ◌&&◌, ◌⊎◌, ◌↔◌, List, [], ◌∷◌, Some, None, Option, ◌==◌, nat_lt}
+use Rattle.std.specs.Prelude.{◌≡◌, ℕ, ◌+◌, ◌-◌, ◌<◌, if◌then◌else◌, ◌&&◌, ◌⊎◌, ◌↔◌, List, [], ◌∷◌, Some, None, Option, ◌==◌, nat_lt}
+use Rattle.std.specs.Int.{abs_diff}
 use Rattle.grid.specs.declared.shape.Shape.{Shape}
 use Rattle.grid.specs.declared.shape.Coordinates.{Coordinates}
 use Rattle.grid.specs.declared.step.Step.{Step}
@@ -35,9 +36,9 @@ pub data Move : Type 0 where
 
 -- a number moved, where it stays below the bound
 abbrev pub moved : Move → ℕ → ℕ → Option ℕ
-moved Back x bound = cond (nat_lt 0 x) (Some (x - 1)) None
+moved Back x bound = if nat_lt 0 x then Some (x - 1) else None
 moved Stay x bound = Some x
-moved Forth x bound = cond (nat_lt (x + 1) bound) (Some (x + 1)) None
+moved Forth x bound = if nat_lt (x + 1) bound then Some (x + 1) else None
 
 pub record Way : Type 0 where
   pub across : Move
@@ -86,7 +87,7 @@ beyond s x w = number_at s (moved w.across x.column s.columns) (moved w.along x.
 
 -- the neighbour of the place p in the direction d; absent outside the shape
 unfoldable pub neighbour_of : Shape → ℕ → Direction → Option ℕ
-neighbour_of s p d = cond (nat_lt p (count_of s)) (beyond s (coordinates_of s p) (way d)) None
+neighbour_of s p d = if nat_lt p (count_of s) then beyond s (coordinates_of s p) (way d) else None
 
 -- d is among ds
 abbrev pub Among : Direction → List Direction → Type 0
@@ -111,20 +112,16 @@ pub record DirectionsAreExact : Type 0 where
   pub symmetric : (s : Shape) (p q : ℕ) (k : Step) → Joins s k p q → Joins s k q p
   pub one_kind : (s : Shape) (p q : ℕ) (j k : Step) → Joins s j p q → Joins s k p q → j ≡ k
 
--- the gap between two numbers
-abbrev pub gap : ℕ → ℕ → ℕ
-gap x y = (x - y) + (y - x)
-
 -- the kind of step that has these gaps between columns, rows and layers
 abbrev pub kind_of_gaps : ℕ → ℕ → ℕ → Option Step
 kind_of_gaps c r l =
-    cond (l == 0)
-    (cond (c + r == 1) (Some Straight) (cond (c == 1 && r == 1) (Some Diagonal) None))
-    (cond (l == 1 && c + r == 0) (Some Via) None)
+    if l == 0
+    then (if c + r == 1 then Some Straight else (if c == 1 && r == 1 then Some Diagonal else None))
+    else (if l == 1 && c + r == 0 then Some Via else None)
 
 abbrev pub kind_between : Coordinates → Coordinates → Option Step
-kind_between x y = kind_of_gaps (gap x.column y.column) (gap x.row y.row) (gap x.layer y.layer)
+kind_between x y = kind_of_gaps (abs_diff x.column y.column) (abs_diff x.row y.row) (abs_diff x.layer y.layer)
 
 -- the step that joins p and q, if one does
 abbrev pub step_between : Shape → ℕ → ℕ → Option Step
-step_between s p q = cond (nat_lt p (count_of s) && nat_lt q (count_of s)) (kind_between (coordinates_of s p) (coordinates_of s q)) None
+step_between s p q = if nat_lt p (count_of s) && nat_lt q (count_of s) then kind_between (coordinates_of s p) (coordinates_of s q) else None

@@ -1,15 +1,15 @@
 -- A move on place numbers: a column, a row or a layer more or less is a fixed stride.
-use Rattle.std.specs.Prelude.{ℕ, ◌+◌, ◌-◌, ◌*◌, cond, Some, None, Option, nat_lt}
+use Rattle.std.specs.Prelude.{ℕ, ◌+◌, ◌-◌, ◌*◌, if◌then◌else◌, Some, None, Option, nat_lt}
 use Rattle.grid.specs.declared.shape.Shape.{Shape}
 use Rattle.grid.specs.declared.shape.Coordinates.{Coordinates}
 use Rattle.grid.specs.Steps.{Move, Back, Stay, Forth, Way}
 
 -- from the place p with the coordinate x one back, and one forth
 abbrev pub stride_back : ℕ → ℕ → ℕ → Option ℕ
-stride_back x p stride = cond (nat_lt 0 x) (Some (p - stride)) None
+stride_back x p stride = if nat_lt 0 x then Some (p - stride) else None
 
 abbrev pub stride_forth : ℕ → ℕ → ℕ → ℕ → Option ℕ
-stride_forth x bound p stride = cond (nat_lt (x + 1) bound) (Some (p + stride)) None
+stride_forth x bound p stride = if nat_lt (x + 1) bound then Some (p + stride) else None
 
 -- the same for any move; what was absent stays absent
 abbrev pub slide : Move → ℕ → ℕ → ℕ → Option ℕ → Option ℕ

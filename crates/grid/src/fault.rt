@@ -1,6 +1,9 @@
 // Why a shape or a sheet refuses.
-ghost use Rattle.std.specs.Prelude.{◌≡◌};
+ghost use Rattle.std.specs.Prelude.{◌≡◌, Some};
 ghost use Rattle.grid.specs.Faults.{sheet_refusal};
+ghost use Rattle.grid.specs.Texts.{refusal_text};
+
+use std::fmt;
 
 // Each case has a number and names a value.
 #[derive(Clone, Copy, PartialEq, Eq, Debug)]
@@ -24,35 +27,44 @@ pub enum SheetFault {
 }
 
 impl SheetFault {
+    // The number and the value.
+    fn refusal(self) -> (u32, u32)
+        ensures number { result.0 ≡ (sheet_refusal self).number }
+        ensures named { result.1 ≡ (sheet_refusal self).named }
+    {
+        match self {
+            SheetFault::PastLimits => (1, 0),
+            SheetFault::ShortList(entries) => (2, entries),
+            SheetFault::OutsideShape(place) => (3, place),
+            SheetFault::NoNet(number) => (4, number),
+            SheetFault::Closed(place) => (5, place),
+            SheetFault::NoSpare(bare) => (6, bare),
+            SheetFault::NotBare(place) => (7, place),
+            SheetFault::CarriesNone(place) => (8, place),
+        }
+    }
+
     // The number of the refusal.
     pub fn number(self) -> u32
         ensures { result ≡ (sheet_refusal self).number }
     {
-        match self {
-            SheetFault::PastLimits => 1,
-            SheetFault::ShortList(_) => 2,
-            SheetFault::OutsideShape(_) => 3,
-            SheetFault::NoNet(_) => 4,
-            SheetFault::Closed(_) => 5,
-            SheetFault::NoSpare(_) => 6,
-            SheetFault::NotBare(_) => 7,
-            SheetFault::CarriesNone(_) => 8,
-        }
+        self.refusal().0
     }
 
     // The value that the refusal names.
     pub fn named(self) -> u32
         ensures { result ≡ (sheet_refusal self).named }
     {
-        match self {
-            SheetFault::PastLimits => 0,
-            SheetFault::ShortList(value)
-            | SheetFault::OutsideShape(value)
-            | SheetFault::NoNet(value)
-            | SheetFault::Closed(value)
-            | SheetFault::NoSpare(value)
-            | SheetFault::NotBare(value)
-            | SheetFault::CarriesNone(value) => value,
-        }
+        self.refusal().1
+    }
+}
+
+// Written as the number and the value, with a space between.
+impl fmt::Display for SheetFault {
+    ghost output = { λ fault. Some (refusal_text (sheet_refusal fault)) };
+
+    fn fmt<W: fmt::Write>(&self, f: &mut fmt::Formatter<W>) -> fmt::Result {
+        let (number, named) = self.refusal();
+        write!(f, "{number} {named}")
     }
 }

@@ -1,6 +1,7 @@
 // Boards as grids of places: shapes, the numbers of places, the steps that join them and the directions in which steps go.
 #![tactic(auto)]
 
+mod axis;
 pub mod fault;
 pub mod neighbour;
 pub mod place;

@@ -11,7 +11,10 @@ impl Shape {
     pub fn new(columns: u32, rows: u32, layers: u32) -> Result<Shape, SheetFault>
         ensures { told result ≡ shape_answer columns rows layers }
     {
-        if columns < 1 || columns > 512 || rows < 1 || rows > 512 || layers < 1 || layers > 8 {
+        let within = (1..=512).contains(&columns)
+            && (1..=512).contains(&rows)
+            && (1..=8).contains(&layers);
+        if !within {
             return Err(SheetFault::PastLimits);
         }
         Ok(Shape {
@@ -22,6 +25,7 @@ impl Shape {
     }
 
     // How many places the shape has: they are numbered from 0, one to one.
+    #[tactic(auto, using(crate::proofs::Numbering::count_most, crate::proofs::Numbering::one_to_one))]
     pub fn places(self) -> u32
         ensures is { result ≡ count_of self }
         ensures most { result ≤ 2097152 }
@@ -41,11 +45,7 @@ impl Shape {
     pub fn place(self, at: Coordinates) -> Option<u32>
         ensures { result ≡ number_answer self at }
     {
-        if self.holds(at) {
-            Some((at.layer * self.rows + at.row) * self.columns + at.column)
-        } else {
-            None
-        }
+        self.holds(at).then(|| (at.layer * self.rows + at.row) * self.columns + at.column)
     }
 
     // The column, the row and the layer of a place; absent outside the shape.

@@ -3,46 +3,39 @@
 
 #[cfg(test)]
 mod tests {
-    use grid::{Coordinates, Direction, Shape, Step, directions};
+    use grid::{Coordinates, Shape, SheetFault, Step, directions};
     use std::process::Abort;
     use std::test::Fail;
 
-    // The making of a shape answers one, or refusal 1 that names 0.
-    fn check_shape(
-        rt: &impl Abort,
-        columns: u32,
-        rows: u32,
-        layers: u32,
-        made: bool,
-    ) -> Result<(), Fail> {
-        match Shape::new(columns, rows, layers) {
-            Ok(shape) => {
-                assert!(rt; made);
-                assert_eq!(rt; shape.columns, columns);
-                assert_eq!(rt; shape.rows, rows);
-                assert_eq!(rt; shape.layers, layers);
-                Ok(())
-            }
-            Err(fault) => {
-                assert!(rt; !made);
-                assert_eq!(rt; fault.number(), 1);
-                assert_eq!(rt; fault.named(), 0);
-                Ok(())
-            }
-        }
+    // A shape of these numbers is made.
+    fn check_made(rt: &impl Abort, columns: u32, rows: u32, layers: u32) {
+        let size = Shape::new(columns, rows, layers).map(|shape| [
+            shape.columns,
+            shape.rows,
+            shape.layers,
+        ]);
+        assert_eq!(rt; size, Ok([columns, rows, layers]));
+    }
+
+    // None is made: refusal 1, which names 0.
+    fn check_refused(rt: &impl Abort, columns: u32, rows: u32, layers: u32) {
+        let fault = Shape::new(columns, rows, layers).err();
+        assert_eq!(rt; fault.map(SheetFault::number), Some(1));
+        assert_eq!(rt; fault.map(SheetFault::named), Some(0));
     }
 
     #[test]
     fn shapes(rt: HostRuntime) -> Result<(), Fail> {
-        check_shape(&rt, 512, 512, 8, true)?;
-        check_shape(&rt, 1, 1, 1, true)?;
-        check_shape(&rt, 513, 512, 8, false)?;
-        check_shape(&rt, 512, 513, 8, false)?;
-        check_shape(&rt, 512, 512, 9, false)?;
-        check_shape(&rt, 0, 1, 1, false)?;
-        check_shape(&rt, 1, 0, 1, false)?;
-        check_shape(&rt, 1, 1, 0, false)?;
-        check_shape(&rt, u32::MAX, u32::MAX, u32::MAX, false)
+        check_made(&rt, 512, 512, 8);
+        check_made(&rt, 1, 1, 1);
+        check_refused(&rt, 513, 512, 8);
+        check_refused(&rt, 512, 513, 8);
+        check_refused(&rt, 512, 512, 9);
+        check_refused(&rt, 0, 1, 1);
+        check_refused(&rt, 1, 0, 1);
+        check_refused(&rt, 1, 1, 0);
+        check_refused(&rt, u32::MAX, u32::MAX, u32::MAX);
+        Ok(())
     }
 
     // The place at the coordinates has the number, and the number the coordinates.
@@ -86,12 +79,11 @@ mod tests {
         let Some(site) = shape.site(place) else {
             return Err(Fail::new("no site"));
         };
-        let directions = directions();
-        for i in 0..10 {
-            let to = site.neighbour(directions[i]);
-            assert_eq!(rt; to, all[i]);
+        for (direction, expected) in directions().iter().zip(all) {
+            let to = site.neighbour(*direction);
+            assert_eq!(rt; to, expected);
             if let Some(to) = to {
-                assert_eq!(rt; shape.step(place, to), Some(directions[i].step()));
+                assert_eq!(rt; shape.step(place, to), Some(direction.step()));
             }
         }
         Ok(())
@@ -103,11 +95,7 @@ mod tests {
             return Err(Fail::new("no shape"));
         };
         let inner = [12, 14, 10, 16, 9, 11, 15, 17, 4, 22];
-        let mut all = [None; 10];
-        for i in 0..10 {
-            all[i] = Some(inner[i]);
-        }
-        check_neighbours(&rt, shape, 13, all)?;
+        check_neighbours(&rt, shape, 13, inner.map(Some))?;
         check_neighbours(
             &rt,
             shape,
