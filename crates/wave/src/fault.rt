@@ -1,9 +1,11 @@
 // Why a search refuses.
-ghost use Rattle.std.specs.Prelude.{◌≡◌};
+ghost use Rattle.std.specs.Prelude.{◌≡◌, Some};
+ghost use Rattle.grid.specs.Texts.{refusal_text};
 ghost use Rattle.wave.specs.declared.fault.SearchFault.TheVariants.{Sheet};
 ghost use Rattle.wave.specs.Questions.{search_refusal};
 
 use grid::SheetFault;
+use std::fmt;
 
 // Each case has a number and names a value. A fault of the sheet travels whole inside it.
 #[derive(Clone, Copy, PartialEq, Eq, Debug)]
@@ -49,5 +51,16 @@ impl From<SheetFault> for SearchFault {
 
     fn from(fault: SheetFault) -> SearchFault {
         SearchFault::Sheet(fault)
+    }
+}
+
+// Written as the number and the value, with a space between.
+impl fmt::Display for SearchFault {
+    ghost output = { λ fault. Some (refusal_text (search_refusal fault)) };
+
+    fn fmt<W: fmt::Write>(&self, f: &mut fmt::Formatter<W>) -> fmt::Result {
+        let number = self.number();
+        let named = self.named();
+        write!(f, "{number} {named}")
     }
 }
