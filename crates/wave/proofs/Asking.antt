@@ -1,9 +1,9 @@
 -- What the questions of a search tell, and how its labels end up in the caller's list.
-use Rattle.std.proofs.Common.{◌≡◌, ℕ, zero, suc, ◌-◌, ◌<◌, ◌≤◌, Bool, true, false, cond, ltb, leb, List, ◌++◌, length, get_or, take, drop, Some, None, Ok, Err, Option, Result, sym, refl, ap, ◌∙◌, subst, arith}
+use Rattle.std.proofs.Common.{◌≡◌, ℕ, zero, suc, ◌-◌, ◌≤◌, Bool, true, false, cond, ltb, leb, List, [], ◌∷◌, ◌++◌, length, get_or, take, drop, Some, None, Ok, Err, Option, Result, sym, refl, ap, ◌∙◌, subst, arith}
 use borrow.Rule.Slice.PartMut.{post_of}
 use Rattle.std.proofs.lemmas.List.{same_lists, get_or_default, drop_at, length-take-le}
 use Rattle.std.proofs.lemmas.Slice.{drop-put_mid}
-use Rattle.std.proofs.lemmas.Bool.{and_parts, leb-true, ltb-true}
+use Rattle.std.proofs.lemmas.Bool.{leb-true}
 use Rattle.grid.specs.Faults.{Refusal}
 use Rattle.grid.specs.Places.{count_of}
 use Rattle.grid.proofs.Numbering.{count_most}
@@ -16,7 +16,7 @@ use Rattle.route.specs.Sweep.{row, swept}
 use Rattle.route.proofs.Order.{none_some}
 use Rattle.route.proofs.Sweep.{swept_is_least}
 use Rattle.route.proofs.Laws.{lawful}
-use Rattle.wave.specs.Questions.{refused_by, unless, serves, wave_asks, search_asks, whole_wave, RefusalLeaves}
+use Rattle.wave.specs.Questions.{Question, ask, refused_by, unless, serves, start_asks, wave_asks, search_asks, whole_wave, RefusalLeaves}
 
 -- a question that holds, and the rest
 passed : (b : Bool) (f : Refusal) (rest : Option Refusal) → cond b rest (Some f) ≡ None → (b ≡ true) × (rest ≡ None)
@@ -39,40 +39,35 @@ unless_some o f a e = sym (ap (λ z. unless z a) e)
 pub unless_none : {A : Type 0} (o : Option Refusal) (a : Result A Refusal) → o ≡ None → a ≡ unless o a
 unless_none o a e = sym (ap (λ z. unless z a) e)
 
--- what the wave's questions tell
+-- what the questions of a start tell
 pub record Allowed {C : Type 0} (t : Rates C) (g : Ground) (q : Queue C) (net start entries : ℕ) : Type 0 where
-  pub inside : start < count_of g.shape
   pub enough : count_of g.shape ≤ entries
-  pub tariff : q.spans t.span ≡ true
-  pub reached : count_of g.shape ≤ q.served
+  pub served : serves t g q ≡ true
   pub free : g.opened start net ≡ true
+
+-- with any questions behind them
+start_allowed : {C : Type 0} (t : Rates C) (g : Ground) (q : Queue C) (net start entries : ℕ) (more : List Question) → refused_by (start_asks t g q net start entries ++ more) ≡ None →
+    Allowed t g q net start entries
+start_allowed t g q net start entries more h =
+    let (l, h1) = passed (leb (count_of g.shape) entries) _ _ h in
+    let (s, h2) = passed (serves t g q) _ _ h1 in
+    let (o, h3) = passed (g.opened start net) _ _ h2 in
+    record { enough = leb-true _ _ l; served = s; free = o }
 
 pub wave_allowed : {C : Type 0} (t : Rates C) (g : Ground) (q : Queue C) (net start entries : ℕ) → refused_by (wave_asks t g q net start entries) ≡ None → Allowed t g q net start entries
 wave_allowed t g q net start entries h =
     let (a, h1) = passed _ _ _ h in
     let (i, h2) = passed (ltb start (count_of g.shape)) _ _ h1 in
-    let (l, h3) = passed (leb (count_of g.shape) entries) _ _ h2 in
-    let (s, h4) = passed (serves t g q) _ _ h3 in
-    let (o, h5) = passed (g.opened start net) _ None h4 in
-    let (sp, sv) = and_parts (q.spans t.span) (leb (count_of g.shape) q.served) s in
-    record { inside = ltb-true _ _ i; enough = leb-true _ _ l; tariff = sp; reached = leb-true _ _ sv; free = o }
+    start_allowed t g q net start entries [] h2
 
--- the search's questions tell the same, and that the goal is open
-pub search_allowed : {C : Type 0} (t : Rates C) (g : Ground) (q : Queue C) (net start goal entries : ℕ) → Sound g → refused_by (search_asks t g q net start goal entries) ≡ None →
-    Allowed t g q net start entries × (g.opened goal net ≡ true)
-search_allowed t g q net start goal entries sound h =
-    let (l, h1) = passed (leb (count_of g.shape) entries) _ _ h in
-    let (s, h2) = passed (serves t g q) _ _ h1 in
-    let (o, h3) = passed (g.opened start net) _ _ h2 in
-    let (e, h4) = passed (g.opened goal net) _ None h3 in
-    let (sp, sv) = and_parts (q.spans t.span) (leb (count_of g.shape) q.served) s in
-    (record { inside = sound.inside start net o; enough = leb-true _ _ l; tariff = sp; reached = leb-true _ _ sv; free = o }, e)
+pub search_allowed : {C : Type 0} (t : Rates C) (g : Ground) (q : Queue C) (net start goal entries : ℕ) → refused_by (search_asks t g q net start goal entries) ≡ None → Allowed t g q net start entries
+search_allowed t g q net start goal entries h = start_allowed t g q net start entries (ask (g.opened goal net) 5 goal ∷ []) h
 
 -- how long the front part of the labels is
-pub front_size : {C : Type 0} (n k : ℕ) (xs ys : List (Option C)) → n ≤ length xs → k ≡ n → length ys ≡ length (take (k - 0) xs) → length ys ≡ n
-front_size n k xs ys enough e l =
+pub front_size : {C : Type 0} (n k : ℕ) (xs : List (Option C)) → n ≤ length xs → k ≡ n → length (take (k - 0) xs) ≡ n
+front_size n k xs enough e =
     let m : k - 0 ≡ n = omega arith in
-    l ∙ length-take-le (k - 0) xs (omega arith) ∙ m
+    length-take-le (k - 0) xs (omega arith) ∙ m
 
 -- what stands behind the front part
 pub behind : {C : Type 0} (n k : ℕ) (xs ys : List (Option C)) → k ≡ n → length ys ≡ n → post_of 0 k xs ≡ drop n xs

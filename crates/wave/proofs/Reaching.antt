@@ -1,8 +1,10 @@
 -- What a search that reached its goal leaves.
-use Rattle.std.proofs.Common.{◌≡◌, ℕ, ◌+◌, ◌<◌, ◌≤◌, List, ◌++◌, length, get_or, take, is_some, Some, None, Option, sym, ap, ◌∙◌, subst, ⊎_elim, arith, length-append}
+use Rattle.std.proofs.Common.{◌≡◌, ℕ, ◌+◌, ◌<◌, ◌≤◌, List, ◌++◌, length, get_or, take, is_some, Some, None, Option, Result, sym, ap, ◌∙◌, subst, ⊎_elim, arith, length-append}
 use borrow.Rule.Slice.PartMut.{post_of}
 use Rattle.std.proofs.lemmas.List.{get_or_append_left, get_or_past, drop_at, take_at, length-drop}
 use Rattle.std.proofs.lemmas.Bool.{cases_lt}
+use Rattle.grid.specs.Faults.{Refusal}
+use Rattle.std.specs.Option.{ok_or}
 use Rattle.grid.specs.Places.{count_of}
 use Rattle.tariff.specs.Rates.{Rates, Laws}
 use Rattle.model.specs.Sheets.{Ground, Sound}
@@ -13,9 +15,11 @@ use Rattle.route.proofs.Bridge.{least_cost}
 use Rattle.route.proofs.Labels.{same_wire, wire_labelled}
 use Rattle.route.proofs.Laws.{lawful}
 use Rattle.route.proofs.Order.{none_some}
-use Rattle.wave.specs.Questions.{SomeLabels}
+use Rattle.wave.specs.declared.fault.SearchFault.{SearchFault}
+use Rattle.wave.specs.declared.fault.SearchFault.TheVariants.{NoPath}
+use Rattle.wave.specs.Questions.{SomeLabels, SearchLeaves, search_answered, found}
 use Rattle.wave.specs.Spread.{Spread}
-use Rattle.wave.proofs.Asking.{behind, label_least}
+use Rattle.wave.proofs.Asking.{behind, label_least, whole_list, leaves_whole}
 
 module _ {C : Type 0} {t : Rates C} (laws : Laws t) (g : Ground) (sound : Sound g) (net start goal : ℕ) where
   -- the goal's label is its least cost
@@ -42,3 +46,18 @@ module _ {C : Type 0} {t : Rates C} (laws : Laws t) (g : Ground) (sound : Sound 
         past = drop_at ys (post_of 0 k xs) (count_of g.shape) size ∙ post;
         long = length-append ys (post_of 0 k xs) ∙ ap (λ l. length ys + length l) post ∙ (let d = length-drop (count_of g.shape) xs in omega arith);
       }
+
+  -- a search that was allowed answers the goal's label and leaves the labels, both by whether the goal has one
+  pub finished : {F : Type 0} (early : Option Refusal) (xs ys : List (Option C)) (f f' : F) (k n : ℕ) (o : Option C) (r : Result C SearchFault) → early ≡ None → k ≡ count_of g.shape →
+      count_of g.shape ≤ length xs → length ys ≡ count_of g.shape → Spread t (maze g net start) (Some goal) ys n → o ≡ label_of ys goal → r ≡ ok_or o (NoPath goal) →
+      (search_answered r ≡ found goal (label_of (labels t g net start) goal)) × SearchLeaves t g net start goal early xs (ys ++ post_of 0 k xs) f f' r
+  finished early xs ys f f' k n (Some c) r a ek enough size S e er = (
+    ap search_answered er ∙ sym (ap (found goal) (goal_least ys n c S (sym e))),
+    subst (λ z. SearchLeaves t g net start goal early xs (ys ++ post_of 0 k xs) f f' z) (sym er) (reached xs ys k n c ek enough size S (sym e)),
+  )
+  finished early xs ys f f' k n None r a ek enough size S e er =
+      let all = S.whole (sym e) in (
+        ap search_answered er ∙ sym (ap (found goal) (label_least laws g sound net start goal ∙ sym (all goal) ∙ sym e)),
+        subst (λ z. SearchLeaves t g net start goal early xs (ys ++ post_of 0 k xs) f f' z) (sym er)
+            (leaves_whole t g net start early xs (ys ++ post_of 0 k xs) f f' a (whole_list laws g sound net start k xs ys ek size all)),
+      )

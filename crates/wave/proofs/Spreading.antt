@@ -1,5 +1,6 @@
 -- What holds at each turn of the wave, and what a turn does to it.
-use Rattle.std.proofs.Common.{◌≡◌, ℕ, zero, suc, ◌+◌, ◌<◌, ◌≤◌, true, ◌⊎◌, List, [], ◌∷◌, length, get_or, set, Some, None, Option, sym, refl, ◌∙◌, subst, inl, inr, add-one, arith, length-set, get_or-set_other, get_or-set_same}
+use Rattle.std.proofs.Common.{◌≡◌, ℕ, zero, suc, ◌+◌, ◌<◌, ◌≤◌, true, ◌⊎◌, List, [], ◌∷◌, length, get_or, set, nat_eq, Some, None, Option, sym, refl, ◌∙◌, subst, inl, inr, add-one, arith, length-set, get_or-set_other, get_or-set_same}
+use Rattle.std.specs.Option.{option_eq}
 use Rattle.std.proofs.lemmas.Bool.{eqb-true}
 use Rattle.grid.specs.declared.shape.Shape.{Shape}
 use Rattle.grid.specs.Places.{count_of}
@@ -19,7 +20,7 @@ use Rattle.route.proofs.Offer.{took_none}
 use Rattle.route.proofs.Laws.{lawful}
 use Rattle.route.proofs.Stopped.{known_taken}
 use Rattle.wave.specs.Offers.{state_of, OffersAll}
-use Rattle.wave.specs.Spread.{labelled, unlabelled, is_goal, Missed, Spread}
+use Rattle.wave.specs.Spread.{labelled, unlabelled, Missed, Spread}
 
 -- THE INVARIANT
 pub record Going {C : Type 0} (t : Rates C) (g : Ground) (net start : ℕ) (q : Queue C) (xs : List (Option C)) (n : ℕ) : Type 0 where
@@ -105,16 +106,16 @@ module _ {C : Type 0} {t : Rates C} {g : Ground} {net start : ℕ} where
     }
 
     -- the place is the goal
-    pub arrived : (goal : Option ℕ) → Laws t → is_goal goal p ≡ true → Spread t (maze g net start) goal (set xs p (Some c)) (n + 1)
+    pub arrived : (goal : Option ℕ) → Laws t → option_eq nat_eq goal (Some p) ≡ true → Spread t (maze g net start) goal (set xs p (Some c)) (n + 1)
     arrived goal laws e = record {
       known = known_taken (lawful laws) G.sound may named;
       count = (let b = both_counts (set xs p (Some c)) in let l = length-set xs p (Some c) in omega (arith, fell, G.counted));
       whole = λ missed. none_some (sym (met goal e missed) ∙ get_or-set_same xs p (Some c) None within);
     }
       where
-        met : (goal : Option ℕ) → is_goal goal p ≡ true → Missed goal (set xs p (Some c)) → get_or (set xs p (Some c)) p None ≡ None
+        met : (goal : Option ℕ) → option_eq nat_eq goal (Some p) ≡ true → Missed goal (set xs p (Some c)) → get_or (set xs p (Some c)) p None ≡ None
         met None e missed = let z : ◌≡◌ {A = ℕ} 0 1 = cc in absurd (omega arith)
-        met (Some v) e missed = subst (λ z. get_or (set xs p (Some c)) z None ≡ None) (sym (eqb-true p v e)) missed
+        met (Some v) e missed = subst (λ z. get_or (set xs p (Some c)) z None ≡ None) (eqb-true v p e) missed
 
   -- nothing waits any more
   pub ended : {q q' : Queue C} {xs : List (Option C)} {n : ℕ} (goal : Option ℕ) → Laws t → Going t g net start q xs n → Empty q q' → Spread t (maze g net start) goal xs n

@@ -1,5 +1,5 @@
 -- The questions of a search, and what it answers and leaves.
-use Rattle.std.specs.Prelude.{◌≡◌, ℕ, ◌<◌, Bool, true, cond, ◌&&◌, List, [], ◌∷◌, ◌++◌, length, take, drop, is_some, Some, None, Ok, Err, Option, Result, nat_le, nat_lt}
+use Rattle.std.specs.Prelude.{◌≡◌, ℕ, ◌<◌, Bool, true, if◌then◌else◌, ◌&&◌, List, [], ◌∷◌, ◌++◌, length, take, drop, is_some, Some, None, Ok, Err, Option, Result, nat_le, nat_lt}
 use Rattle.grid.specs.Faults.{Refusal, refusal, sheet_refusal}
 use Rattle.grid.specs.Places.{count_of}
 use Rattle.tariff.specs.Rates.{Rates}
@@ -29,7 +29,7 @@ ask b number named = record { holds = b; refuses = refusal number named }
 -- the refusal of the first question that does not hold
 abbrev pub refused_by : List Question → Option Refusal
 refused_by [] = None
-refused_by (q ∷ qs) = cond q.holds (refused_by qs) (Some q.refuses)
+refused_by (q ∷ qs) = if q.holds then refused_by qs else Some q.refuses
 
 -- an answer by its refusal's number and value
 abbrev pub search_answered : {A : Type 0} → Result A SearchFault → Result A Refusal
@@ -45,11 +45,14 @@ unless (Some f) a = Err f
 abbrev pub serves : {C : Type 0} → Rates C → Ground → Queue C → Bool
 serves t g q = q.spans t.span && nat_le (count_of g.shape) q.served
 
--- THE WAVE asks 4, 3, 2, 9, 5
+-- A START asks 2, 9, 5
+abbrev pub start_asks : {C : Type 0} → Rates C → Ground → Queue C → ℕ → ℕ → ℕ → List Question
+start_asks t g q n start entries =
+    ask (nat_le (count_of g.shape) entries) 2 (count_of g.shape) ∷ ask (serves t g q) 9 (count_of g.shape) ∷ ask (g.opened start n) 5 start ∷ []
+
+-- THE WAVE asks 4, 3, and then what a start asks
 abbrev pub wave_asks : {C : Type 0} → Rates C → Ground → Queue C → ℕ → ℕ → ℕ → List Question
-wave_asks t g q n start entries =
-    ask (is_net n) 4 n ∷ ask (nat_lt start (count_of g.shape)) 3 start ∷ ask (nat_le (count_of g.shape) entries) 2 (count_of g.shape) ∷
-    ask (serves t g q) 9 (count_of g.shape) ∷ ask (g.opened start n) 5 start ∷ []
+wave_asks t g q n start entries = ask (is_net n) 4 n ∷ ask (nat_lt start (count_of g.shape)) 3 start ∷ start_asks t g q n start entries
 
 -- and answers how many places have a least cost
 abbrev pub wave_answer : {C : Type 0} → Rates C → Ground → Queue C → ℕ → ℕ → ℕ → Result ℕ Refusal
@@ -64,11 +67,9 @@ abbrev pub WaveLeaves : {C F : Type 0} → Rates C → Ground → ℕ → ℕ �
 WaveLeaves t g n start xs ys f f' (Ok k) = ys ≡ whole_wave t g n start xs
 WaveLeaves t g n start xs ys f f' (Err e) = (ys ≡ xs) × (f' ≡ f)
 
--- THE SEARCH TO A GOAL asks 2, 9, 5 of the start, 5 of the goal
+-- THE SEARCH TO A GOAL asks what a start asks, and 5 of the goal
 abbrev pub search_asks : {C : Type 0} → Rates C → Ground → Queue C → ℕ → ℕ → ℕ → ℕ → List Question
-search_asks t g q n start goal entries =
-    ask (nat_le (count_of g.shape) entries) 2 (count_of g.shape) ∷ ask (serves t g q) 9 (count_of g.shape) ∷
-    ask (g.opened start n) 5 start ∷ ask (g.opened goal n) 5 goal ∷ []
+search_asks t g q n start goal entries = start_asks t g q n start entries ++ (ask (g.opened goal n) 5 goal ∷ [])
 
 -- and then 10: it answers the goal's least cost
 abbrev pub found : {C : Type 0} → ℕ → Option C → Result C Refusal

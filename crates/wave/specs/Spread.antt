@@ -1,5 +1,5 @@
 -- What a wave, or a search to a goal, leaves in the labels.
-use Rattle.std.specs.Prelude.{◌≡◌, ℕ, ◌+◌, Bool, false, List, [], ◌∷◌, get_or, Some, None, Option, ◌==◌, slice_index_or}
+use Rattle.std.specs.Prelude.{◌≡◌, ℕ, ◌+◌, List, [], ◌∷◌, Some, None, Option, slice_index_or}
 use Rattle.tariff.specs.Rates.{Rates}
 use Rattle.route.specs.Search.{Maze, least}
 use Rattle.route.specs.Wire.{Known}
@@ -15,11 +15,6 @@ unlabelled [] = 0
 unlabelled (Some _ ∷ xs) = unlabelled xs
 unlabelled (None ∷ xs) = unlabelled xs + 1
 
--- the place is the goal, if there is one
-abbrev pub is_goal : Option ℕ → ℕ → Bool
-is_goal None p = false
-is_goal (Some g) p = p == g
-
 -- the goal has no label, if there is a goal
 abbrev pub Missed : {C : Type 0} → Option ℕ → List (Option C) → Type 0
 Missed None xs = Unit {0}
@@ -28,6 +23,6 @@ Missed (Some g) xs = slice_index_or xs g None ≡ None
 -- each label is a least cost, with the labels that it comes from; n places are labelled; and where the goal was missed every place
 -- has its least cost
 pub record Spread {C : Type 0} (t : Rates C) (m : Maze) (goal : Option ℕ) (xs : List (Option C)) (n : ℕ) : Type 0 where
-  pub known : Known t m 2097152 (λ p. get_or xs p None)
+  pub known : Known t m 2097152 (λ p. slice_index_or xs p None)
   pub count : n ≡ labelled xs
   pub whole : Missed goal xs → (p : ℕ) → slice_index_or xs p None ≡ least t m 2097152 p

@@ -1,8 +1,11 @@
 // Why a search refuses.
-ghost use Rattle.std.specs.Prelude.{◌≡◌};
+ghost use Rattle.std.specs.Prelude.{◌≡◌, Some};
+ghost use Rattle.grid.specs.Texts.{refusal_text};
 ghost use Rattle.wave.specs.declared.fault.SearchFault.TheVariants.{Sheet};
+ghost use Rattle.wave.specs.Questions.{search_refusal};
 
 use grid::SheetFault;
+use std::fmt;
 
 // Each case has a number and names a value. A fault of the sheet travels whole inside it.
 #[derive(Clone, Copy, PartialEq, Eq, Debug)]
@@ -17,10 +20,47 @@ pub enum SearchFault {
     ShortPath(u32),
 }
 
+impl SearchFault {
+    // The number of the refusal.
+    pub fn number(self) -> u32
+        ensures { result ≡ (search_refusal self).number }
+    {
+        match self {
+            SearchFault::Sheet(fault) => fault.number(),
+            SearchFault::NotServed(_) => 9,
+            SearchFault::NoPath(_) => 10,
+            SearchFault::ShortPath(_) => 11,
+        }
+    }
+
+    // The value that the refusal names.
+    pub fn named(self) -> u32
+        ensures { result ≡ (search_refusal self).named }
+    {
+        match self {
+            SearchFault::Sheet(fault) => fault.named(),
+            SearchFault::NotServed(value)
+            | SearchFault::NoPath(value)
+            | SearchFault::ShortPath(value) => value,
+        }
+    }
+}
+
 impl From<SheetFault> for SearchFault {
     ghost from_gives = { λ f r. r ≡ Sheet f };
 
     fn from(fault: SheetFault) -> SearchFault {
         SearchFault::Sheet(fault)
+    }
+}
+
+// Written as the number and the value, with a space between.
+impl fmt::Display for SearchFault {
+    ghost output = { λ fault. Some (refusal_text (search_refusal fault)) };
+
+    fn fmt<W: fmt::Write>(&self, f: &mut fmt::Formatter<W>) -> fmt::Result {
+        let number = self.number();
+        let named = self.named();
+        write!(f, "{number} {named}")
     }
 }

@@ -1,8 +1,15 @@
-// The wave: the least cost of every place that a net can reach.
+// The search on a ground, for any tariff and front. The wave gives every place that a net can reach from its start its least
+// cost; the search stops at a goal, and leaves labels over which the wire is that of the whole wave. Either one answers the
+// first of its questions that does not hold, and then changes nothing.
 #![tactic(auto)]
 
+pub mod connection;
 pub mod fault;
+pub mod labels;
 mod offer;
 pub mod spread;
 
+pub use connection::Connection;
 pub use fault::SearchFault;
+pub use labels::label_at;
+pub use spread::{search, wave};

@@ -1,76 +1,54 @@
 // The offers that a place makes to its neighbours once it is taken.
 ghost use Rattle.std.specs.Prelude.{◌≡◌, ◌<◌, ◌≤◌, length};
 ghost use Rattle.grid.specs.Places.{count_of};
-ghost use Rattle.route.specs.Hops.{hop, gather, around};
+ghost use Rattle.route.specs.Hops.{hop, around};
 ghost use Rattle.wave.specs.Offers.{Offers, OffersAll};
 
 use front::Front;
-use grid::{Direction, Shape, Site, Step, directions};
+use grid::{Shape, Step, directions};
 use sheet::Ground;
 use tariff::Tariff;
 
-// Offers a place a step from the place that was taken last, if it has no label and is open to the net.
-fn offer<G: Ground, T: Tariff, F: Front<T>>(
-    area: &G,
-    net: u16,
-    to: u32,
-    by: Step,
-    labels: &[Option<T::Cost>],
-    front: &mut F,
-)
-    requires inside { to < length labels.now }
-    requires served { to < (F.Front.view front.old).served }
-    requires order { F.Front.ordered front.old }
-    ensures order { F.Front.ordered front.new }
-    ensures offers { Offers T.Tariff.rates (G.Ground.meaning area.now) net labels.now (F.Front.view front.old) (F.Front.view front.new) (hop by to) }
-{
-    if labels[to as usize].is_none() {
-        if area.is_open(to, net) {
+// The board as offers find it: which places are open to the net, and a label for each place. The front stands beside it: a
+// board that held the front and the list by `&mut` would have to promise, with each method, that it holds the same ones and
+// leaves all but the front as it was.
+#[derive(Drop)]
+pub(crate) struct Board<'a, G, T: Tariff> {
+    pub(crate) area: &'a G,
+    pub(crate) net: u16,
+    pub(crate) shape: Shape,
+    pub(crate) labels: &'a [Option<T::Cost>],
+    ghost sized: { length labels.now ≡ count_of shape },
+}
+
+impl<'a, G: Ground, T: Tariff> Board<'a, G, T> {
+    // Offers a place a step from the place that was taken last, if it has no label and is open to the net.
+    fn offer<F: Front<T>>(&self, to: u32, by: Step, front: &mut F)
+        requires inside { to < count_of self.now.shape }
+        requires served { count_of self.now.shape ≤ (F.view front.old).served }
+        requires order { F.ordered front.old }
+        ensures order { F.ordered front.new }
+        ensures offers { Offers T.rates (G.meaning self.now.area.now) self.now.net self.now.labels.now (F.view front.old) (F.view front.new) (hop by to) }
+    {
+        if self.labels[to as usize].is_none() && self.area.is_open(to, self.net) {
             let _ = front.put(to, by);
         }
     }
-}
 
-// Offers the neighbours of a place in some directions.
-fn offer_all<G: Ground, T: Tariff, F: Front<T>>(
-    area: &G,
-    net: u16,
-    site: Site,
-    list: &[Direction],
-    labels: &[Option<T::Cost>],
-    front: &mut F,
-)
-    requires sized { length labels.now ≡ count_of site.shape }
-    requires served { count_of site.shape ≤ (F.Front.view front.old).served }
-    requires order { F.Front.ordered front.old }
-    ensures order { F.Front.ordered front.new }
-    ensures offers { OffersAll T.Tariff.rates (G.Ground.meaning area.now) net labels.now (F.Front.view front.old) (F.Front.view front.new) (gather site.shape site.place list.now) }
-{
-    for direction in list {
-        if let Some(to) = site.neighbour(*direction) {
-            offer::<G, T, F>(area, net, to, direction.step(), labels, front);
+    // Offers each neighbour of the place that was taken last.
+    pub(crate) fn offer_around<F: Front<T>>(&self, place: u32, front: &mut F)
+        requires inside { place < count_of self.now.shape }
+        requires served { count_of self.now.shape ≤ (F.view front.old).served }
+        requires order { F.ordered front.old }
+        ensures order { F.ordered front.new }
+        ensures offers { OffersAll T.rates (G.meaning self.now.area.now) self.now.net self.now.labels.now (F.view front.old) (F.view front.new) (around self.now.shape place) }
+    {
+        if let Some(site) = self.shape.site(place) {
+            for direction in directions() {
+                if let Some(to) = site.neighbour(direction) {
+                    self.offer(to, direction.step(), front);
+                }
+            }
         }
-    }
-}
-
-// Offers each neighbour of the place that was taken last.
-pub(crate) fn offer_around<G: Ground, T: Tariff, F: Front<T>>(
-    area: &G,
-    net: u16,
-    shape: Shape,
-    place: u32,
-    labels: &[Option<T::Cost>],
-    front: &mut F,
-)
-    requires inside { place < count_of shape }
-    requires sized { length labels.now ≡ count_of shape }
-    requires served { count_of shape ≤ (F.Front.view front.old).served }
-    requires order { F.Front.ordered front.old }
-    ensures order { F.Front.ordered front.new }
-    ensures offers { OffersAll T.Tariff.rates (G.Ground.meaning area.now) net labels.now (F.Front.view front.old) (F.Front.view front.new) (around shape place) }
-{
-    let list = directions();
-    if let Some(site) = shape.site(place) {
-        offer_all::<G, T, F>(area, net, site, &list, labels, front);
     }
 }

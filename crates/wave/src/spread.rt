@@ -1,52 +1,20 @@
 // The wave, and the search that stops at a goal.
-ghost use Rattle.std.specs.Prelude.{◌≡◌, ℕ, ◌<◌, ◌≤◌, true, length, None, Ok, slice_index_or};
+ghost use Rattle.std.specs.Prelude.{◌≡◌, true, length, Ok};
 ghost use Rattle.grid.specs.Places.{count_of};
-ghost use Rattle.model.specs.Sheets.{Ground as GroundMeaning};
 ghost use Rattle.route.specs.Paths.{maze, LabelsAreLeast, WireIsWire};
-ghost use Rattle.route.specs.Queue.{Fresh};
-ghost use Rattle.wave.specs.Offers.{state_of};
-ghost use Rattle.wave.specs.Spread.{Spread, is_goal};
-ghost use Rattle.wave.specs.Questions.{search_answered, unless, refused_by, wave_asks, wave_answer, WaveLeaves, search_asks, search_answer, SearchLeaves};
+ghost use Rattle.wave.specs.Spread.{Spread};
+ghost use Rattle.wave.specs.Questions.{search_answered, unless, refused_by, serves, start_asks, wave_asks, wave_answer, WaveLeaves, search_asks, search_answer, SearchLeaves};
 
+use super::connection::Connection;
 use super::fault::SearchFault;
-use super::offer::offer_around;
+use super::labels::label_at;
+use super::offer::Board;
 use front::Front;
-use grid::SheetFault;
-use sheet::Ground;
+use sheet::{Ground, check_entries, check_net, check_open, check_place};
 use tariff::Tariff;
 
-// Takes every label away.
-fn clear<C: Copy>(list: &mut [Option<C>])
-    ensures { (k : ℕ) → slice_index_or list.new k None ≡ None }
-{
-    for x in list.iter_mut() {
-        *x = None;
-    }
-}
-
-// Takes the labels away, and lets the start wait.
-fn begin<T: Tariff, F: Front<T>>(start: u32, labels: &mut [Option<T::Cost>], front: &mut F)
-    requires place { start < (F.Front.view front.old).served }
-    requires tariff { (F.Front.view front.old).spans T.Tariff.rates.span ≡ true }
-    ensures order { F.Front.ordered front.new }
-    ensures served { (F.Front.view front.new).served ≡ (F.Front.view front.old).served }
-    ensures fresh { (g : GroundMeaning) (net : ℕ) → g.opened start net ≡ true → Fresh T.Tariff.rates (maze g net start) (state_of labels.new (F.Front.view front.new) 0) }
-{
-    clear(labels);
-    let _ = front.start(start);
-}
-
-// Whether the place is the goal.
-fn meets(goal: Option<u32>, place: u32) -> bool
-    ensures { result ≡ is_goal goal place }
-{
-    match goal {
-        None => false,
-        Some(there) => place == there,
-    }
-}
-
-// Takes what waits and labels it, until nothing waits or the goal is taken; how many places that is.
+// Takes every label away and lets the start wait, then takes what waits and labels it, until nothing waits or the goal is
+// taken; how many places that is.
 fn spread<G: Ground, T: Tariff, F: Front<T>>(
     area: &G,
     net: u16,
@@ -55,52 +23,64 @@ fn spread<G: Ground, T: Tariff, F: Front<T>>(
     labels: &mut [Option<T::Cost>],
     front: &mut F,
 ) -> u32
-    requires fresh { Fresh T.Tariff.rates (maze (G.Ground.meaning area.now) net start) (state_of labels.old (F.Front.view front.old) 0) }
-    requires sized { length labels.old ≡ count_of (G.Ground.meaning area.now).shape }
-    requires served { count_of (G.Ground.meaning area.now).shape ≤ (F.Front.view front.old).served }
-    requires order { F.Front.ordered front.old }
-    ensures { Spread T.Tariff.rates (maze (G.Ground.meaning area.now) net start) goal labels.new result }
+    requires sized { length labels.old ≡ count_of (G.meaning area.now).shape }
+    requires served { serves T.rates (G.meaning area.now) (F.view front.old) ≡ true }
+    requires free { (G.meaning area.now).opened start net ≡ true }
+    ensures { Spread T.rates (maze (G.meaning area.now) net start) goal labels.new result }
 {
     let shape = area.shape();
+    labels.fill(None);
+    let _ = front.start(start);
     let mut count = 0;
     while let Some(found) = front.take() {
         labels[found.place as usize] = Some(found.cost);
         count += 1;
-        if meets(goal, found.place) {
+        if goal == Some(found.place) {
             return count;
         }
-        offer_around::<G, T, F>(area, net, shape, found.place, labels, front);
+        let board = Board {
+            area,
+            net,
+            shape,
+            labels,
+        };
+        board.offer_around(found.place, front);
     }
     count
 }
 
-// Whether a wave may begin.
-fn wave_allowed<G: Ground, T: Tariff, F: Front<T>>(
+// Asks whether there is a label for each place (2), the front serves the tariff and the places (9), and the start is open to
+// the net (5).
+fn check_start<G: Ground, T: Tariff, F: Front<T>>(
     area: &G,
     net: u16,
     start: u32,
     entries: usize,
     front: &F,
 ) -> Result<(), SearchFault>
-    ensures { search_answered result ≡ unless (refused_by (wave_asks T.Tariff.rates (G.Ground.meaning area.now) (F.Front.view front.now) net start entries)) (Ok tt) }
+    ensures { search_answered result ≡ unless (refused_by (start_asks T.rates (G.meaning area.now) (F.view front.now) net start entries)) (Ok tt) }
 {
-    let places = area.shape().places();
-    if net < 1 || net > 65534 {
-        return Err(SheetFault::NoNet(u32::from(net)).into());
+    let shape = area.shape();
+    check_entries(shape, entries)?;
+    if !front.serves(shape.places()) {
+        return Err(SearchFault::NotServed(shape.places()));
     }
-    if start >= places {
-        return Err(SheetFault::OutsideShape(start).into());
-    }
-    if entries < places as usize {
-        return Err(SheetFault::ShortList(places).into());
-    }
-    if !front.serves(places) {
-        return Err(SearchFault::NotServed(places));
-    }
-    if !area.is_open(start, net) {
-        return Err(SheetFault::Closed(start).into());
-    }
-    Ok(())
+    Ok(check_open(area, start, net)?)
+}
+
+// Asks what a wave asks: whether the net is one (4), the start is in the shape (3), and the questions of a start.
+fn check_wave<G: Ground, T: Tariff, F: Front<T>>(
+    area: &G,
+    net: u16,
+    start: u32,
+    entries: usize,
+    front: &F,
+) -> Result<(), SearchFault>
+    ensures { search_answered result ≡ unless (refused_by (wave_asks T.rates (G.meaning area.now) (F.view front.now) net start entries)) (Ok tt) }
+{
+    check_net(net)?;
+    check_place(area.shape(), start)?;
+    check_start::<G, T, F>(area, net, start, entries, front)
 }
 
 // Labels every place with its least cost for the net from the start, or none where there is no legal path, and answers how
@@ -113,79 +93,52 @@ pub fn wave<G: Ground, T: Tariff, F: Front<T>>(
     labels: &mut [Option<T::Cost>],
     front: &mut F,
 ) -> Result<u32, SearchFault>
-    ensures answer { search_answered result ≡ wave_answer T.Tariff.rates (G.Ground.meaning area.now) (F.Front.view front.old) net start (length labels.old) }
-    ensures least { LabelsAreLeast T.Tariff.rates }
-    ensures after { WaveLeaves T.Tariff.rates (G.Ground.meaning area.now) net start labels.old labels.new front.old front.new result }
+    ensures answer { search_answered result ≡ wave_answer T.rates (G.meaning area.now) (F.view front.old) net start (length labels.old) }
+    ensures least { LabelsAreLeast T.rates }
+    ensures after { WaveLeaves T.rates (G.meaning area.now) net start labels.old labels.new front.old front.new result }
 {
-    let entries = labels.len();
-    if let Err(fault) = wave_allowed::<G, T, F>(area, net, start, entries, front) {
-        return Err(fault);
-    }
+    check_wave::<G, T, F>(area, net, start, labels.len(), front)?;
     let places = area.shape().places() as usize;
     let board = &mut labels[0..places];
-    begin::<T, F>(start, board, front);
     Ok(spread::<G, T, F>(area, net, start, None, board, front))
 }
 
-// The label of a place.
-fn label_at<C: Copy>(labels: &[Option<C>], place: u32) -> Option<C>
-    requires { place < length labels.now }
-    ensures { result ≡ slice_index_or labels.now place None }
-{
-    labels[place as usize]
-}
-
-// Whether a search to a goal may begin.
-fn search_allowed<G: Ground, T: Tariff, F: Front<T>>(
+// Asks what a search asks: the questions of a start, and whether the goal is open to the net (5).
+fn check_search<G: Ground, T: Tariff, F: Front<T>>(
     area: &G,
-    net: u16,
-    start: u32,
-    goal: u32,
+    connection: Connection,
     entries: usize,
     front: &F,
 ) -> Result<(), SearchFault>
-    ensures { search_answered result ≡ unless (refused_by (search_asks T.Tariff.rates (G.Ground.meaning area.now) (F.Front.view front.now) net start goal entries)) (Ok tt) }
+    ensures { search_answered result ≡ unless (refused_by (search_asks T.rates (G.meaning area.now) (F.view front.now) connection.net connection.start connection.goal entries)) (Ok tt) }
 {
-    let places = area.shape().places();
-    if entries < places as usize {
-        return Err(SheetFault::ShortList(places).into());
-    }
-    if !front.serves(places) {
-        return Err(SearchFault::NotServed(places));
-    }
-    if !area.is_open(start, net) {
-        return Err(SheetFault::Closed(start).into());
-    }
-    if !area.is_open(goal, net) {
-        return Err(SheetFault::Closed(goal).into());
-    }
-    Ok(())
+    check_start::<G, T, F>(area, connection.net, connection.start, entries, front)?;
+    Ok(check_open(area, connection.goal, connection.net)?)
 }
 
 // Searches from the start until the goal is taken, and answers the goal's least cost. Asks whether there is a label a place
 // (2), the front serves the tariff and the places (9), start and goal are open to the net (5), and there is a legal path (10).
 pub fn search<G: Ground, T: Tariff, F: Front<T>>(
     area: &G,
-    net: u16,
-    start: u32,
-    goal: u32,
+    connection: Connection,
     labels: &mut [Option<T::Cost>],
     front: &mut F,
 ) -> Result<T::Cost, SearchFault>
-    ensures answer { search_answered result ≡ search_answer T.Tariff.rates (G.Ground.meaning area.now) (F.Front.view front.old) net start goal (length labels.old) }
-    ensures wire { WireIsWire T.Tariff.rates }
-    ensures after { SearchLeaves T.Tariff.rates (G.Ground.meaning area.now) net start goal (refused_by (search_asks T.Tariff.rates (G.Ground.meaning area.now) (F.Front.view front.old) net start goal (length labels.old))) labels.old labels.new front.old front.new result }
+    ensures answer { search_answered result ≡ search_answer T.rates (G.meaning area.now) (F.view front.old) connection.net connection.start connection.goal (length labels.old) }
+    ensures least { LabelsAreLeast T.rates }
+    ensures wire { WireIsWire T.rates }
+    ensures after { SearchLeaves T.rates (G.meaning area.now) connection.net connection.start connection.goal (refused_by (search_asks T.rates (G.meaning area.now) (F.view front.old) connection.net connection.start connection.goal (length labels.old))) labels.old labels.new front.old front.new result }
 {
-    let entries = labels.len();
-    if let Err(fault) = search_allowed::<G, T, F>(area, net, start, goal, entries, front) {
-        return Err(fault);
-    }
+    check_search::<G, T, F>(area, connection, labels.len(), front)?;
     let places = area.shape().places() as usize;
     let board = &mut labels[0..places];
-    begin::<T, F>(start, board, front);
-    let _ = spread::<G, T, F>(area, net, start, Some(goal), board, front);
-    match label_at(board, goal) {
-        Some(cost) => Ok(cost),
-        None => Err(SearchFault::NoPath(goal)),
-    }
+    let _ = spread::<G, T, F>(
+        area,
+        connection.net,
+        connection.start,
+        Some(connection.goal),
+        board,
+        front,
+    );
+    label_at(board, connection.goal).ok_or(SearchFault::NoPath(connection.goal))
 }

@@ -1,24 +1,22 @@
-use Rattle.std.proofs.Common.{◌≡◌, ◌-◌, length, Ok, refl, ap, ◌∙◌, arith}
+use Rattle.std.proofs.Common.{◌≡◌, ◌-◌, length, Ok, ap, ◌∙◌, arith}
 use Rattle.grid.specs.Places.{count_of}
 use Rattle.wave.specs.Spread.{labelled}
-use Rattle.wave.proofs.Asking.{granted, denied, unless_some, unless_none, wave_allowed, front_size, whole_labels, whole_list}
+use Rattle.wave.proofs.Asking.{granted, unless_none, wave_allowed, front_size, whole_labels, whole_list}
 use Rattle.route.proofs.Labels.{labels_are_least}
 use Rattle.wave.proofs.spread.wave.Goals as goal
 
-pub returns-in-Err : goal.returns-in-Err
-returns-in-Err g c =
-    record { answer = unless_some _ _ _ (denied _ _ c.in-Err.ensures); least = labels_are_least g.met.T.Tariff.laws; after = (refl, refl) }
+pub returns-in_err-check_wave-clause-least : goal.returns-in_err-check_wave-clause-least
+returns-in_err-check_wave-clause-least g c = labels_are_least g.met.T.Tariff.laws
 
 pub spread-requires : goal.spread-requires
 spread-requires g c =
     let m = g.G.Ground.meaning c.args.area.now in
-    let a = wave_allowed g.T.Tariff.rates m (g.F.Front.view c.args.front.now) c.args.net c.args.start (length c.args.labels.now) (granted _ c.in_default.ensures) in
+    let a = wave_allowed g.T.Tariff.rates m (g.F.Front.view c.args.front.now) c.args.net c.args.start (length c.args.labels.now) (granted _ c.in_ok-check_wave.ensures) in
     let e : c.places-places.result ≡ count_of m.shape = c.places-places.ensures.is ∙ ap count_of c.shape.ensures in
     record {
-      fresh = c.begin.ensures.fresh m c.args.net a.free;
-      sized = front_size _ _ _ _ a.enough e c.begin.auto.labels;
-      served = omega (arith, c.begin.ensures.served, a.reached);
-      order = c.begin.ensures.order;
+      sized = front_size _ _ _ a.enough e;
+      served = a.served;
+      free = a.free;
     }
 
 pub returns : goal.returns
@@ -26,10 +24,10 @@ returns g c =
     let m = g.G.Ground.meaning c.args.area.now in
     let sound = g.G.Ground.sound c.args.area.now in
     let laws = g.met.T.Tariff.laws in
-    let o = granted _ c.in_default.ensures in
+    let o = granted _ c.in_ok-check_wave.ensures in
     let a = wave_allowed g.T.Tariff.rates m (g.F.Front.view c.args.front.now) c.args.net c.args.start (length c.args.labels.now) o in
     let e : c.places-places.result ≡ count_of m.shape = c.places-places.ensures.is ∙ ap count_of c.shape.ensures in
-    let size : length c.spread.new.labels ≡ count_of m.shape = c.spread.auto.labels ∙ front_size _ _ _ _ a.enough e c.begin.auto.labels in
+    let size : length c.spread.new.labels ≡ count_of m.shape = c.spread.auto.labels ∙ front_size _ _ _ a.enough e in
     let k : c.places-places.result - 0 ≡ count_of m.shape = omega arith in
     let all = c.spread.ensures.whole tt in
     record {
