@@ -36,11 +36,7 @@ fn print_answer(
 ) -> anyhow::Result<()> {
     match answer {
         Ok(()) => println!(rt; "  {what}: ok")?,
-        Err(fault) => {
-            let number = fault.number();
-            let named = fault.named();
-            println!(rt; "  {what}: no {number} {named}")?
-        }
+        Err(fault) => println!(rt; "  {what}: no {fault}")?,
     }
     Ok(())
 }
