@@ -9,37 +9,14 @@ use std::fmt::Display;
 use tariff::Tariff;
 use via_first::ViaFirst;
 
-// A place and the step by which it is offered.
-struct Offer {
-    place: u32,
-    step: Step,
-}
-
-const OFFERS: [Offer; 6] = [
-    Offer {
-        place: 1,
-        step: Step::Via,
-    },
-    Offer {
-        place: 2,
-        step: Step::Diagonal,
-    },
-    Offer {
-        place: 1,
-        step: Step::Straight,
-    },
-    Offer {
-        place: 3,
-        step: Step::Straight,
-    },
-    Offer {
-        place: 3,
-        step: Step::Via,
-    },
-    Offer {
-        place: 9,
-        step: Step::Straight,
-    },
+// Places, and the steps by which they are offered.
+const OFFERS: [(u32, Step); 6] = [
+    (1, Step::Via),
+    (2, Step::Diagonal),
+    (1, Step::Straight),
+    (3, Step::Straight),
+    (3, Step::Via),
+    (9, Step::Straight),
 ];
 
 // Takes the places that wait, and prints them with their costs.
@@ -70,12 +47,8 @@ where
     }
     let _ = front.take();
     print!(rt; "  {name}:")?;
-    for offer in &OFFERS {
-        let answer = if front.put(offer.place, offer.step) {
-            "yes"
-        } else {
-            "no"
-        };
+    for (place, step) in OFFERS {
+        let answer = if front.put(place, step) { "yes" } else { "no" };
         print!(rt; " {answer}")?;
     }
     print!(rt; ";")?;
