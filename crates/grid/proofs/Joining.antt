@@ -1,5 +1,5 @@
 -- The ten directions lead to exactly the places that a step joins.
-use Rattle.std.proofs.Common.{◌≡◌, ℕ, ◌+◌, ◌-◌, ◌<◌, ◌≤◌, ltb, ◌↔◌, List, [], ◌∷◌, Some, None, Option, sym, refl, ap, ◌∙◌, subst, inl, inr, ⊎_elim, arith, lit≤}
+use Rattle.std.proofs.Common.{◌≡◌, ℕ, ◌+◌, ◌-◌, ◌<◌, ltb, ◌↔◌, Some, None, Option, sym, refl, ap, ◌∙◌, subst, inl, inr, ⊎_elim, arith}
 use Rattle.std.proofs.lemmas.Bool.{cases_lt, lt-ltb, le-ltb, cond-true, cond-false}
 use Rattle.std.proofs.lemmas.Bool.Decides.{nat_tests}
 use Rattle.grid.specs.declared.shape.Shape.{Shape}
@@ -208,36 +208,8 @@ every SouthEast = inr (inr (inr (inr (inr (inr (inr (inl refl)))))))
 every Up = inr (inr (inr (inr (inr (inr (inr (inr (inl refl))))))))
 every Down = inr (inr (inr (inr (inr (inr (inr (inr (inr (inl refl)))))))))
 
--- the place of a direction in the order
-index : Direction → ℕ
-index West = 0
-index East = 1
-index North = 2
-index South = 3
-index NorthWest = 4
-index NorthEast = 5
-index SouthWest = 6
-index SouthEast = 7
-index Up = 8
-index Down = 9
-
--- a list whose indices rise from n on
-abbrev Rising : ℕ → List Direction → Type 0
-Rising n [] = Unit {0}
-Rising n (d ∷ ds) = (n ≤ index d) × Rising (index d + 1) ds
-
-above : (n : ℕ) (ds : List Direction) (x : Direction) → Rising n ds → Among x ds → n ≤ index x
-above n [] x r i = absurd i
-above n (d ∷ ds) x r (inl e) = omega (arith, r.0, ap index e)
-above n (d ∷ ds) x r (inr i) = omega (arith, r.0, above (index d + 1) ds x r.1 i)
-
-distinct : (n : ℕ) (ds : List Direction) → Rising n ds → Distinct ds
-distinct n [] r = tt
-distinct n (d ∷ ds) r = (λ i. absurd (omega (arith, above (index d + 1) ds d r.1 i)), distinct (index d + 1) ds r.1)
-
-rising : Rising 0 order
-unfolding index
-rising = (lit≤ tt, (lit≤ tt, (lit≤ tt, (lit≤ tt, (lit≤ tt, (lit≤ tt, (lit≤ tt, (lit≤ tt, (lit≤ tt, (lit≤ tt, tt))))))))))
+distinct : Distinct order
+distinct = grind arith
 
 pub exact : DirectionsAreExact
-exact = record { all = every; distinct = distinct 0 order rising; joined = joined; once = one_direction; symmetric = joins_back; one_kind = one_kind }
+exact = record { all = every; distinct = distinct; joined = joined; once = one_direction; symmetric = joins_back; one_kind = one_kind }
