@@ -18,27 +18,22 @@ Gaps Diagonal c r l = (l ≡ 0) × (c ≡ 1) × (r ≡ 1)
 Gaps Via c r l = (l ≡ 1) × (c ≡ 0) × (r ≡ 0)
 
 gaps_from : (k : Step) (c r l : ℕ) → kind_of_gaps c r l ≡ Some k → Gaps k c r l
-gaps_from Straight c r l e = (grind (arith, nat_tests), grind (arith, nat_tests))
-gaps_from Diagonal c r l e = (grind (arith, nat_tests), grind (arith, nat_tests), grind (arith, nat_tests))
-gaps_from Via c r l e = (grind (arith, nat_tests), grind (arith, nat_tests), grind (arith, nat_tests))
+gaps_from k c r l e = grind (arith, nat_tests)
 
 kind_from : (k : Step) (c r l : ℕ) → Gaps k c r l → kind_of_gaps c r l ≡ Some k
-kind_from Straight c r l g = grind (arith, nat_tests)
-kind_from Diagonal c r l g = grind (arith, nat_tests)
-kind_from Via c r l g = grind (arith, nat_tests)
+kind_from k c r l g = grind (arith, nat_tests)
 
 gap_none : (x y : ℕ) → abs_diff x y ≡ 0 → x ≡ y
 gap_none x y e = omega arith
 
 gap_one : (x y : ℕ) → abs_diff x y ≡ 1 → Beside x y
-gap_one x y e = ⊎_elim (λ h. inl h) (λ h. inr (omega arith)) (cases_eq x (y + 1))
+gap_one x y e = grind arith
 
 none_gap : (x y : ℕ) → x ≡ y → abs_diff x y ≡ 0
 none_gap x y e = omega arith
 
 one_gap : (x y : ℕ) → Beside x y → abs_diff x y ≡ 1
-one_gap x y (inl e) = omega arith
-one_gap x y (inr e) = omega arith
+one_gap x y h = grind arith
 
 module _ (x y : Coordinates) where
   abbrev At : Step → Type 0

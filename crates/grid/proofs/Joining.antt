@@ -1,5 +1,5 @@
 -- The ten directions lead to exactly the places that a step joins.
-use Rattle.std.proofs.Common.{◌≡◌, ℕ, ◌+◌, ◌-◌, ◌<◌, ltb, ◌↔◌, Some, None, Option, sym, refl, ap, ◌∙◌, subst, inl, inr, ⊎_elim, arith}
+use Rattle.std.proofs.Common.{◌≡◌, ℕ, ◌+◌, ◌<◌, ltb, ◌↔◌, Some, None, Option, sym, refl, ap, ◌∙◌, subst, inl, inr, ⊎_elim, arith}
 use Rattle.std.proofs.lemmas.Bool.{cases_lt, lt-ltb, le-ltb, cond-true, cond-false}
 use Rattle.std.proofs.lemmas.Bool.Decides.{nat_tests}
 use Rattle.grid.specs.declared.shape.Shape.{Shape}
@@ -19,25 +19,13 @@ Shift Stay x y = x ≡ y
 Shift Forth x y = y ≡ x + 1
 
 moved_is : (m : Move) (x y n : ℕ) → x < n → moved m x n ≡ Some y → Shift m x y × (y < n)
-moved_is Back x y n h e = (grind (arith, nat_tests), grind (arith, nat_tests))
-moved_is Stay x y n h e = let i : x ≡ y = cc in (i, omega arith)
-moved_is Forth x y n h e = (grind (arith, nat_tests), grind (arith, nat_tests))
+moved_is m x y n h e = grind (arith, nat_tests)
 
 moved_from : (m : Move) (x y n : ℕ) → y < n → Shift m x y → moved m x n ≡ Some y
-moved_from Back x y n h e = let i : x - 1 ≡ y = omega arith in cond-true (ltb 0 x) (Some (x - 1)) None (lt-ltb 0 x (omega arith)) ∙ ap Some i
-moved_from Stay x y n h e = ap Some e
-moved_from Forth x y n h e = cond-true (ltb (x + 1) n) (Some (x + 1)) None (lt-ltb (x + 1) n (omega arith)) ∙ ap Some (sym e)
+moved_from m x y n h e = grind (arith, nat_tests)
 
 shift_one : (m n : Move) (x y : ℕ) → Shift m x y → Shift n x y → m ≡ n
-shift_one Back Back x y e f = refl
-shift_one Back Stay x y e f = absurd (omega arith)
-shift_one Back Forth x y e f = absurd (omega arith)
-shift_one Stay Back x y e f = absurd (omega arith)
-shift_one Stay Stay x y e f = refl
-shift_one Stay Forth x y e f = absurd (omega arith)
-shift_one Forth Back x y e f = absurd (omega arith)
-shift_one Forth Stay x y e f = absurd (omega arith)
-shift_one Forth Forth x y e f = refl
+shift_one m n x y e f = grind arith
 
 -- the moves w lead from the place p to the place q
 record Leads (s : Shape) (p q : ℕ) (w : Way) : Type 0 where
@@ -55,9 +43,9 @@ record Found (s : Shape) (q : ℕ) (c r l : Option ℕ) : Type 0 where
   number : number_of s at ≡ q
 
 found : (s : Shape) (q : ℕ) (c r l : Option ℕ) → number_at s c r l ≡ Some q → Found s q c r l
-found s q None r l e = some_none (sym e)
-found s q (Some c) None l e = some_none (sym e)
-found s q (Some c) (Some r) None e = some_none (sym e)
+found s q None r l e = cc
+found s q (Some c) None l e = cc
+found s q (Some c) (Some r) None e = cc
 found s q (Some c) (Some r) (Some l) e = record { at = coordinates c r l; column = refl; row = refl; layer = refl; number = cc }
 
 leads : (s : Shape) (p q : ℕ) (d : Direction) → neighbour_of s p d ≡ Some q → Leads s p q (way d)
@@ -84,7 +72,7 @@ leads s p q d e = ⊎_elim
         }
 
 number_is : (s : Shape) (q c r l : ℕ) (a b o : Option ℕ) → a ≡ Some c → b ≡ Some r → o ≡ Some l → number_of s (coordinates c r l) ≡ q → number_at s a b o ≡ Some q
-number_is s q c r l a b o ea eb eo e = rw (ea, eb, eo) (ap Some e)
+number_is s q c r l a b o ea eb eo e = grind arith
 
 led : (s : Shape) (p q : ℕ) (d : Direction) → Leads s p q (way d) → neighbour_of s p d ≡ Some q
 unfolding neighbour_of
@@ -138,16 +126,7 @@ one_direction s p q d e f g =
 
 -- a direction's neighbour is joined by a step of its kind
 meets : (s : Shape) (p q : ℕ) (d : Direction) → Leads s p q (way d) → Meets (kind d) (coordinates_of s p) (coordinates_of s q)
-meets s p q West t = (t.through, inl (t.along, inl t.across))
-meets s p q East t = (t.through, inl (t.along, inr t.across))
-meets s p q North t = (t.through, inr (t.across, inl t.along))
-meets s p q South t = (t.through, inr (t.across, inr t.along))
-meets s p q NorthWest t = (t.through, inl t.across, inl t.along)
-meets s p q NorthEast t = (t.through, inr t.across, inl t.along)
-meets s p q SouthWest t = (t.through, inl t.across, inr t.along)
-meets s p q SouthEast t = (t.through, inr t.across, inr t.along)
-meets s p q Up t = (t.across, t.along, inl t.through)
-meets s p q Down t = (t.across, t.along, inr t.through)
+meets s p q d t = grind arith
 
 abbrev Directed : Shape → Step → ℕ → ℕ → Type 0
 Directed s k p q = (d : Direction) × (kind d ≡ k) × (neighbour_of s p d ≡ Some q)
@@ -178,14 +157,10 @@ pub joined : (s : Shape) (p q : ℕ) (k : Step) → Joins s k p q ↔ Directed s
 joined s p q k = (λ j. directed s p q j.from j.to k j.meets, joins_from s p q k)
 
 beside_back : (a b : ℕ) → Beside a b → Beside b a
-beside_back a b (inl e) = inr e
-beside_back a b (inr e) = inl e
+beside_back a b h = grind arith
 
 meets_back : (k : Step) (x y : Coordinates) → Meets k x y → Meets k y x
-meets_back Straight x y (l, inl (r, c)) = (sym l, inl (sym r, beside_back _ _ c))
-meets_back Straight x y (l, inr (c, r)) = (sym l, inr (sym c, beside_back _ _ r))
-meets_back Diagonal x y (l, c, r) = (sym l, beside_back _ _ c, beside_back _ _ r)
-meets_back Via x y (c, r, l) = (sym c, sym r, beside_back _ _ l)
+meets_back k x y m = grind arith
 
 pub joins_back : (s : Shape) (p q : ℕ) (k : Step) → Joins s k p q → Joins s k q p
 joins_back s p q k j = record { from = j.to; to = j.from; meets = meets_back k (coordinates_of s p) (coordinates_of s q) j.meets }
@@ -197,16 +172,7 @@ one_kind s p q j k a b =
     sym dj ∙ ap kind (one_direction s p q d e dq eq) ∙ ek
 
 every : (d : Direction) → Among d order
-every West = inl refl
-every East = inr (inl refl)
-every North = inr (inr (inl refl))
-every South = inr (inr (inr (inl refl)))
-every NorthWest = inr (inr (inr (inr (inl refl))))
-every NorthEast = inr (inr (inr (inr (inr (inl refl)))))
-every SouthWest = inr (inr (inr (inr (inr (inr (inl refl))))))
-every SouthEast = inr (inr (inr (inr (inr (inr (inr (inl refl)))))))
-every Up = inr (inr (inr (inr (inr (inr (inr (inr (inl refl))))))))
-every Down = inr (inr (inr (inr (inr (inr (inr (inr (inr (inl refl)))))))))
+every d = grind arith
 
 distinct : Distinct order
 distinct = grind arith
