@@ -9,7 +9,7 @@ use Rattle.grid.specs.declared.step.Step.TheVariants.{Straight, Diagonal, Via}
 use Rattle.grid.specs.declared.step.Direction.{Direction}
 use Rattle.grid.specs.declared.step.Direction.TheVariants.{West, East, North, South, NorthWest, NorthEast, SouthWest, SouthEast, Up, Down}
 use Rattle.grid.specs.Places.{count_of, coordinates, Inside, number_of, column_of, row_of, layer_of, coordinates_of}
-use Rattle.grid.specs.Steps.{Beside, Meets, Joins, Move, Back, Stay, Forth, moved, Way, way, kind, order, number_at, beyond, neighbour_of, Among, Distinct, DirectionsAreExact}
+use Rattle.grid.specs.Steps.{Meets, Joins, Move, Back, Stay, Forth, moved, Way, way, kind, order, number_at, beyond, neighbour_of, Among, Distinct, DirectionsAreExact}
 use Rattle.grid.proofs.Numbering.{some_none, number_below, coordinates_at, inside_of, number_again}
 
 -- what a move makes of a number
@@ -71,58 +71,18 @@ leads s p q d e = ⊎_elim
           through = subst (λ (x : Coordinates). Shift (way d).through (layer_of s p) x.layer) there l;
         }
 
-number_is : (s : Shape) (q c r l : ℕ) (a b o : Option ℕ) → a ≡ Some c → b ≡ Some r → o ≡ Some l → number_of s (coordinates c r l) ≡ q → number_at s a b o ≡ Some q
-number_is s q c r l a b o ea eb eo e = grind arith
-
 led : (s : Shape) (p q : ℕ) (d : Direction) → Leads s p q (way d) → neighbour_of s p d ≡ Some q
 unfolding neighbour_of
 led s p q d t =
     let i = inside_of s q t.to in
-    cond-true (ltb p (count_of s)) _ _ (lt-ltb _ _ t.from) ∙
-    number_is s q (column_of s q) (row_of s q) (layer_of s q) _ _ _
-    (moved_from (way d).across (column_of s p) (column_of s q) s.columns i.column t.across)
-    (moved_from (way d).along (row_of s p) (row_of s q) s.rows i.row t.along)
-    (moved_from (way d).through (layer_of s p) (layer_of s q) s.layers i.layer t.through)
-    (number_again s q)
-
--- a direction is told by its moves
-flat : Move → Move → Direction
-flat Back Back = NorthWest
-flat Back Stay = West
-flat Back Forth = SouthWest
-flat Stay Back = North
-flat Stay Stay = West
-flat Stay Forth = South
-flat Forth Back = NorthEast
-flat Forth Stay = East
-flat Forth Forth = SouthEast
-
-turned : Move → Move → Move → Direction
-turned a b Back = Up
-turned a b Stay = flat a b
-turned a b Forth = Down
-
-told : (d : Direction) → turned (way d).across (way d).along (way d).through ≡ d
-unfolding turned flat
-told West = refl
-told East = refl
-told North = refl
-told South = refl
-told NorthWest = refl
-told NorthEast = refl
-told SouthWest = refl
-told SouthEast = refl
-told Up = refl
-told Down = refl
+    let n = number_again s q in
+    grind (arith, nat_tests)
 
 one_direction : (s : Shape) (p q : ℕ) (d e : Direction) → neighbour_of s p d ≡ Some q → neighbour_of s p e ≡ Some q → d ≡ e
 one_direction s p q d e f g =
     let x = leads s p q d f in
     let y = leads s p q e g in
-    let a = shift_one (way d).across (way e).across (column_of s p) (column_of s q) x.across y.across in
-    let b = shift_one (way d).along (way e).along (row_of s p) (row_of s q) x.along y.along in
-    let c = shift_one (way d).through (way e).through (layer_of s p) (layer_of s q) x.through y.through in
-    sym (told d) ∙ (λ i. turned (a i) (b i) (c i)) ∙ told e
+    grind arith
 
 -- a direction's neighbour is joined by a step of its kind
 meets : (s : Shape) (p q : ℕ) (d : Direction) → Leads s p q (way d) → Meets (kind d) (coordinates_of s p) (coordinates_of s q)
@@ -156,20 +116,11 @@ module _ (s : Shape) (p q : ℕ) (from : p < count_of s) (to : q < count_of s) w
 pub joined : (s : Shape) (p q : ℕ) (k : Step) → Joins s k p q ↔ Directed s k p q
 joined s p q k = (λ j. directed s p q j.from j.to k j.meets, joins_from s p q k)
 
-beside_back : (a b : ℕ) → Beside a b → Beside b a
-beside_back a b h = grind arith
-
-meets_back : (k : Step) (x y : Coordinates) → Meets k x y → Meets k y x
-meets_back k x y m = grind arith
-
 pub joins_back : (s : Shape) (p q : ℕ) (k : Step) → Joins s k p q → Joins s k q p
-joins_back s p q k j = record { from = j.to; to = j.from; meets = meets_back k (coordinates_of s p) (coordinates_of s q) j.meets }
+joins_back s p q k j = grind arith
 
 pub one_kind : (s : Shape) (p q : ℕ) (j k : Step) → Joins s j p q → Joins s k p q → j ≡ k
-one_kind s p q j k a b =
-    let (d, dj, dq) = (joined s p q j).0 a in
-    let (e, ek, eq) = (joined s p q k).0 b in
-    sym dj ∙ ap kind (one_direction s p q d e dq eq) ∙ ek
+one_kind s p q j k a b = grind arith
 
 every : (d : Direction) → Among d order
 every d = grind arith
