@@ -1,4 +1,4 @@
-use Rattle.std.proofs.Common.{◌≡◌, ◌+◌, Result, Ok, Err, refl, sym, ◌∙◌, arith, rules}
+use Rattle.std.proofs.Common.{◌≡◌, ◌+◌, Result, Ok, Err, refl, arith, rules}
 use Rattle.pricing.specs.declared.leg.Leg.{Leg}
 use Rattle.pricing.specs.declared.fault.StepFault.{StepFault}
 use Rattle.pricing.specs.declared.fault.WireFault.TheVariants.{AtStep}
