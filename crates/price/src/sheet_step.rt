@@ -27,7 +27,7 @@ fn print_answer(
     Ok(())
 }
 
-// Prints the copper of a row of places.
+// Prints the copper of a row of places. In a sheet copper is a number: 0 is bare and 65,535 barred.
 fn print_row(rt: &HostRuntime, cells: &[u16]) -> anyhow::Result<()> {
     print!(rt; " ")?;
     for copper in cells {
