@@ -1,5 +1,5 @@
 -- The ten directions lead to exactly the places that a step joins.
-use Rattle.std.proofs.Common.{◌≡◌, ℕ, ◌+◌, ◌-◌, ◌<◌, ◌≤◌, ltb, ◌↔◌, List, [], ◌∷◌, Some, None, Option, sym, refl, ap, ◌∙◌, subst, inl, inr, ⊎_elim, arith, lit≤}
+use Rattle.std.proofs.Common.{◌≡◌, ℕ, ◌+◌, ◌<◌, ltb, ◌↔◌, Some, None, Option, sym, refl, ap, ◌∙◌, subst, inl, inr, ⊎_elim, arith}
 use Rattle.std.proofs.lemmas.Bool.{cases_lt, lt-ltb, le-ltb, cond-true, cond-false}
 use Rattle.std.proofs.lemmas.Bool.Decides.{nat_tests}
 use Rattle.grid.specs.declared.shape.Shape.{Shape}
@@ -9,7 +9,7 @@ use Rattle.grid.specs.declared.step.Step.TheVariants.{Straight, Diagonal, Via}
 use Rattle.grid.specs.declared.step.Direction.{Direction}
 use Rattle.grid.specs.declared.step.Direction.TheVariants.{West, East, North, South, NorthWest, NorthEast, SouthWest, SouthEast, Up, Down}
 use Rattle.grid.specs.Places.{count_of, coordinates, Inside, number_of, column_of, row_of, layer_of, coordinates_of}
-use Rattle.grid.specs.Steps.{Beside, Meets, Joins, Move, Back, Stay, Forth, moved, Way, way, kind, order, number_at, beyond, neighbour_of, Among, Distinct, DirectionsAreExact}
+use Rattle.grid.specs.Steps.{Meets, Joins, Move, Back, Stay, Forth, moved, Way, way, kind, order, number_at, beyond, neighbour_of, Among, Distinct, DirectionsAreExact}
 use Rattle.grid.proofs.Numbering.{some_none, number_below, coordinates_at, inside_of, number_again}
 
 -- what a move makes of a number
@@ -19,25 +19,13 @@ Shift Stay x y = x ≡ y
 Shift Forth x y = y ≡ x + 1
 
 moved_is : (m : Move) (x y n : ℕ) → x < n → moved m x n ≡ Some y → Shift m x y × (y < n)
-moved_is Back x y n h e = (grind (arith, nat_tests), grind (arith, nat_tests))
-moved_is Stay x y n h e = let i : x ≡ y = cc in (i, omega arith)
-moved_is Forth x y n h e = (grind (arith, nat_tests), grind (arith, nat_tests))
+moved_is m x y n h e = grind (arith, nat_tests)
 
 moved_from : (m : Move) (x y n : ℕ) → y < n → Shift m x y → moved m x n ≡ Some y
-moved_from Back x y n h e = let i : x - 1 ≡ y = omega arith in cond-true (ltb 0 x) (Some (x - 1)) None (lt-ltb 0 x (omega arith)) ∙ ap Some i
-moved_from Stay x y n h e = ap Some e
-moved_from Forth x y n h e = cond-true (ltb (x + 1) n) (Some (x + 1)) None (lt-ltb (x + 1) n (omega arith)) ∙ ap Some (sym e)
+moved_from m x y n h e = grind (arith, nat_tests)
 
 shift_one : (m n : Move) (x y : ℕ) → Shift m x y → Shift n x y → m ≡ n
-shift_one Back Back x y e f = refl
-shift_one Back Stay x y e f = absurd (omega arith)
-shift_one Back Forth x y e f = absurd (omega arith)
-shift_one Stay Back x y e f = absurd (omega arith)
-shift_one Stay Stay x y e f = refl
-shift_one Stay Forth x y e f = absurd (omega arith)
-shift_one Forth Back x y e f = absurd (omega arith)
-shift_one Forth Stay x y e f = absurd (omega arith)
-shift_one Forth Forth x y e f = refl
+shift_one m n x y e f = grind arith
 
 -- the moves w lead from the place p to the place q
 record Leads (s : Shape) (p q : ℕ) (w : Way) : Type 0 where
@@ -55,9 +43,9 @@ record Found (s : Shape) (q : ℕ) (c r l : Option ℕ) : Type 0 where
   number : number_of s at ≡ q
 
 found : (s : Shape) (q : ℕ) (c r l : Option ℕ) → number_at s c r l ≡ Some q → Found s q c r l
-found s q None r l e = some_none (sym e)
-found s q (Some c) None l e = some_none (sym e)
-found s q (Some c) (Some r) None e = some_none (sym e)
+found s q None r l e = cc
+found s q (Some c) None l e = cc
+found s q (Some c) (Some r) None e = cc
 found s q (Some c) (Some r) (Some l) e = record { at = coordinates c r l; column = refl; row = refl; layer = refl; number = cc }
 
 leads : (s : Shape) (p q : ℕ) (d : Direction) → neighbour_of s p d ≡ Some q → Leads s p q (way d)
@@ -83,71 +71,22 @@ leads s p q d e = ⊎_elim
           through = subst (λ (x : Coordinates). Shift (way d).through (layer_of s p) x.layer) there l;
         }
 
-number_is : (s : Shape) (q c r l : ℕ) (a b o : Option ℕ) → a ≡ Some c → b ≡ Some r → o ≡ Some l → number_of s (coordinates c r l) ≡ q → number_at s a b o ≡ Some q
-number_is s q c r l a b o ea eb eo e = rw (ea, eb, eo) (ap Some e)
-
 led : (s : Shape) (p q : ℕ) (d : Direction) → Leads s p q (way d) → neighbour_of s p d ≡ Some q
 unfolding neighbour_of
 led s p q d t =
     let i = inside_of s q t.to in
-    cond-true (ltb p (count_of s)) _ _ (lt-ltb _ _ t.from) ∙
-    number_is s q (column_of s q) (row_of s q) (layer_of s q) _ _ _
-    (moved_from (way d).across (column_of s p) (column_of s q) s.columns i.column t.across)
-    (moved_from (way d).along (row_of s p) (row_of s q) s.rows i.row t.along)
-    (moved_from (way d).through (layer_of s p) (layer_of s q) s.layers i.layer t.through)
-    (number_again s q)
-
--- a direction is told by its moves
-flat : Move → Move → Direction
-flat Back Back = NorthWest
-flat Back Stay = West
-flat Back Forth = SouthWest
-flat Stay Back = North
-flat Stay Stay = West
-flat Stay Forth = South
-flat Forth Back = NorthEast
-flat Forth Stay = East
-flat Forth Forth = SouthEast
-
-turned : Move → Move → Move → Direction
-turned a b Back = Up
-turned a b Stay = flat a b
-turned a b Forth = Down
-
-told : (d : Direction) → turned (way d).across (way d).along (way d).through ≡ d
-unfolding turned flat
-told West = refl
-told East = refl
-told North = refl
-told South = refl
-told NorthWest = refl
-told NorthEast = refl
-told SouthWest = refl
-told SouthEast = refl
-told Up = refl
-told Down = refl
+    let n = number_again s q in
+    grind (arith, nat_tests)
 
 one_direction : (s : Shape) (p q : ℕ) (d e : Direction) → neighbour_of s p d ≡ Some q → neighbour_of s p e ≡ Some q → d ≡ e
 one_direction s p q d e f g =
     let x = leads s p q d f in
     let y = leads s p q e g in
-    let a = shift_one (way d).across (way e).across (column_of s p) (column_of s q) x.across y.across in
-    let b = shift_one (way d).along (way e).along (row_of s p) (row_of s q) x.along y.along in
-    let c = shift_one (way d).through (way e).through (layer_of s p) (layer_of s q) x.through y.through in
-    sym (told d) ∙ (λ i. turned (a i) (b i) (c i)) ∙ told e
+    grind arith
 
 -- a direction's neighbour is joined by a step of its kind
 meets : (s : Shape) (p q : ℕ) (d : Direction) → Leads s p q (way d) → Meets (kind d) (coordinates_of s p) (coordinates_of s q)
-meets s p q West t = (t.through, inl (t.along, inl t.across))
-meets s p q East t = (t.through, inl (t.along, inr t.across))
-meets s p q North t = (t.through, inr (t.across, inl t.along))
-meets s p q South t = (t.through, inr (t.across, inr t.along))
-meets s p q NorthWest t = (t.through, inl t.across, inl t.along)
-meets s p q NorthEast t = (t.through, inr t.across, inl t.along)
-meets s p q SouthWest t = (t.through, inl t.across, inr t.along)
-meets s p q SouthEast t = (t.through, inr t.across, inr t.along)
-meets s p q Up t = (t.across, t.along, inl t.through)
-meets s p q Down t = (t.across, t.along, inr t.through)
+meets s p q d t = grind arith
 
 abbrev Directed : Shape → Step → ℕ → ℕ → Type 0
 Directed s k p q = (d : Direction) × (kind d ≡ k) × (neighbour_of s p d ≡ Some q)
@@ -177,67 +116,17 @@ module _ (s : Shape) (p q : ℕ) (from : p < count_of s) (to : q < count_of s) w
 pub joined : (s : Shape) (p q : ℕ) (k : Step) → Joins s k p q ↔ Directed s k p q
 joined s p q k = (λ j. directed s p q j.from j.to k j.meets, joins_from s p q k)
 
-beside_back : (a b : ℕ) → Beside a b → Beside b a
-beside_back a b (inl e) = inr e
-beside_back a b (inr e) = inl e
-
-meets_back : (k : Step) (x y : Coordinates) → Meets k x y → Meets k y x
-meets_back Straight x y (l, inl (r, c)) = (sym l, inl (sym r, beside_back _ _ c))
-meets_back Straight x y (l, inr (c, r)) = (sym l, inr (sym c, beside_back _ _ r))
-meets_back Diagonal x y (l, c, r) = (sym l, beside_back _ _ c, beside_back _ _ r)
-meets_back Via x y (c, r, l) = (sym c, sym r, beside_back _ _ l)
-
 pub joins_back : (s : Shape) (p q : ℕ) (k : Step) → Joins s k p q → Joins s k q p
-joins_back s p q k j = record { from = j.to; to = j.from; meets = meets_back k (coordinates_of s p) (coordinates_of s q) j.meets }
+joins_back s p q k j = grind arith
 
 pub one_kind : (s : Shape) (p q : ℕ) (j k : Step) → Joins s j p q → Joins s k p q → j ≡ k
-one_kind s p q j k a b =
-    let (d, dj, dq) = (joined s p q j).0 a in
-    let (e, ek, eq) = (joined s p q k).0 b in
-    sym dj ∙ ap kind (one_direction s p q d e dq eq) ∙ ek
+one_kind s p q j k a b = grind arith
 
 every : (d : Direction) → Among d order
-every West = inl refl
-every East = inr (inl refl)
-every North = inr (inr (inl refl))
-every South = inr (inr (inr (inl refl)))
-every NorthWest = inr (inr (inr (inr (inl refl))))
-every NorthEast = inr (inr (inr (inr (inr (inl refl)))))
-every SouthWest = inr (inr (inr (inr (inr (inr (inl refl))))))
-every SouthEast = inr (inr (inr (inr (inr (inr (inr (inl refl)))))))
-every Up = inr (inr (inr (inr (inr (inr (inr (inr (inl refl))))))))
-every Down = inr (inr (inr (inr (inr (inr (inr (inr (inr (inl refl)))))))))
+every d = grind arith
 
--- the place of a direction in the order
-index : Direction → ℕ
-index West = 0
-index East = 1
-index North = 2
-index South = 3
-index NorthWest = 4
-index NorthEast = 5
-index SouthWest = 6
-index SouthEast = 7
-index Up = 8
-index Down = 9
-
--- a list whose indices rise from n on
-abbrev Rising : ℕ → List Direction → Type 0
-Rising n [] = Unit {0}
-Rising n (d ∷ ds) = (n ≤ index d) × Rising (index d + 1) ds
-
-above : (n : ℕ) (ds : List Direction) (x : Direction) → Rising n ds → Among x ds → n ≤ index x
-above n [] x r i = absurd i
-above n (d ∷ ds) x r (inl e) = omega (arith, r.0, ap index e)
-above n (d ∷ ds) x r (inr i) = omega (arith, r.0, above (index d + 1) ds x r.1 i)
-
-distinct : (n : ℕ) (ds : List Direction) → Rising n ds → Distinct ds
-distinct n [] r = tt
-distinct n (d ∷ ds) r = (λ i. absurd (omega (arith, above (index d + 1) ds d r.1 i)), distinct (index d + 1) ds r.1)
-
-rising : Rising 0 order
-unfolding index
-rising = (lit≤ tt, (lit≤ tt, (lit≤ tt, (lit≤ tt, (lit≤ tt, (lit≤ tt, (lit≤ tt, (lit≤ tt, (lit≤ tt, (lit≤ tt, tt))))))))))
+distinct : Distinct order
+distinct = grind arith
 
 pub exact : DirectionsAreExact
-exact = record { all = every; distinct = distinct 0 order rising; joined = joined; once = one_direction; symmetric = joins_back; one_kind = one_kind }
+exact = record { all = every; distinct = distinct; joined = joined; once = one_direction; symmetric = joins_back; one_kind = one_kind }

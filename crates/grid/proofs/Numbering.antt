@@ -1,15 +1,15 @@
 -- The numbering of places is one-to-one, and how large the numbers are.
-use Rattle.std.proofs.Common.{◌≡◌, ℕ, ◌+◌, ◌*◌, ◌/◌, ◌%◌, ◌<◌, ◌≤◌, true, ltb, Some, None, sym, ap, ◌∙◌, subst, ⊎_elim, arith}
+use Rattle.std.proofs.Common.{◌≡◌, ℕ, ◌+◌, ◌*◌, ◌/◌, ◌%◌, ◌<◌, ◌≤◌, ltb, Some, None, sym, ap, ◌∙◌, subst, ⊎_elim, arith}
 use lib.Arith.{digits_lt}
 use Rattle.std.proofs.lemmas.Nat.{mul-le, div-add-mod', div_below, mod_below, div-mul-add, mod-mul-add}
-use Rattle.std.proofs.lemmas.Bool.{and_parts, ltb-true, lt-ltb, le-ltb, cases_lt, cond-true, cond-false}
+use Rattle.std.proofs.lemmas.Bool.{lt-ltb, le-ltb, cases_lt, cond-true, cond-false}
 use Rattle.grid.specs.declared.shape.Shape.{Shape}
 use Rattle.grid.specs.declared.shape.Coordinates.{Coordinates}
-use Rattle.grid.specs.Places.{count_of, Inside, is_inside, number_of, column_of, row_of, layer_of, coordinates_of, coordinates_answer, OneToOne}
+use Rattle.grid.specs.Places.{count_of, Inside, number_of, column_of, row_of, layer_of, coordinates_of, coordinates_answer, OneToOne}
 
 -- what is there is not absent
 pub some_none : {C : Type 0} {A : Type 0} {c : C} → Some c ≡ None → A
-some_none {c} e = let z : ◌≡◌ {A = ℕ} 0 1 = cc in absurd (omega arith)
+some_none e = cc
 
 pub lines_most : (s : Shape) → s.layers * s.rows ≤ 4096
 lines_most s = mul-le s.layers s.rows 8 512 s.deep.1 s.tall.1
@@ -17,23 +17,11 @@ lines_most s = mul-le s.layers s.rows 8 512 s.deep.1 s.tall.1
 pub count_most : (s : Shape) → count_of s ≤ 2097152
 count_most s = mul-le (s.layers * s.rows) s.columns 4096 512 (lines_most s) s.wide.1
 
-pub inside_from : (s : Shape) (x : Coordinates) → is_inside s x ≡ true → Inside s x
-inside_from s x h =
-    let (c, rest) = and_parts (ltb x.column s.columns) _ h in
-    let (r, l) = and_parts (ltb x.row s.rows) _ rest in
-    record { column = ltb-true _ _ c; row = ltb-true _ _ r; layer = ltb-true _ _ l }
-
 pub line_below : (s : Shape) (x : Coordinates) → Inside s x → x.layer * s.rows + x.row < s.layers * s.rows
 line_below s x i = digits_lt i.layer i.row
 
 pub number_below : (s : Shape) (x : Coordinates) → Inside s x → number_of s x < count_of s
 number_below s x i = digits_lt (line_below s x i) i.column
-
-pub line_small : (s : Shape) (x : Coordinates) → is_inside s x ≡ true → x.layer * s.rows + x.row < 4096
-line_small s x h = omega (arith, line_below s x (inside_from s x h), lines_most s)
-
-pub number_small : (s : Shape) (x : Coordinates) → is_inside s x ≡ true → number_of s x < 2097152
-number_small s x h = omega (arith, number_below s x (inside_from s x h), count_most s)
 
 -- the column, the row and the layer of a place's number are the place's
 pub column_at : (s : Shape) (x : Coordinates) → Inside s x → column_of s (number_of s x) ≡ x.column

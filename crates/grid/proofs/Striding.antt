@@ -1,12 +1,13 @@
 -- The neighbours of a place, by strides on its number.
-use Rattle.std.proofs.Common.{◌≡◌, ℕ, ◌+◌, ◌-◌, ◌*◌, ◌<◌, ltb, Some, None, Option, sym, refl, ap, ◌∙◌, subst, ⊎_elim, mul_comm, add-mul, arith}
-use Rattle.std.proofs.lemmas.Bool.{cases_lt, lt-ltb, le-ltb, cond-true, cond-false}
+use Rattle.std.proofs.Common.{◌≡◌, ℕ, ◌+◌, ◌*◌, ◌<◌, ltb, Some, None, Option, sym, refl, ap, ◌∙◌, subst, mul_comm, add-mul, arith}
+use Rattle.std.proofs.lemmas.Bool.Decides.{nat_tests}
+use Rattle.std.proofs.lemmas.Bool.{lt-ltb, cond-true}
 use Rattle.grid.specs.declared.shape.Shape.{Shape}
 use Rattle.grid.specs.declared.shape.Coordinates.{Coordinates}
 use Rattle.grid.specs.declared.site.Site.{Site}
 use Rattle.grid.specs.declared.step.Direction.{Direction}
 use Rattle.grid.specs.Places.{count_of, coordinates, Inside, number_of, coordinates_of}
-use Rattle.grid.specs.Steps.{Move, Back, Stay, Forth, Way, way, moved, number_at, beyond, neighbour_of}
+use Rattle.grid.specs.Steps.{Move, Way, way, moved, number_at, beyond, neighbour_of}
 use Rattle.grid.specs.Strides.{slide, strides}
 use Rattle.grid.proofs.Numbering.{number_below, count_most, coordinates_at}
 
@@ -39,30 +40,10 @@ onto f (Some x) = Some (f x)
 
 -- a move of a coordinate, seen on numbers that grow with it by a stride
 moved_by : (f : ℕ → ℕ) (stride : ℕ) → ((n : ℕ) → f (n + 1) ≡ f n + stride) → (m : Move) (x bound : ℕ) → slide m x bound stride (Some (f x)) ≡ onto f (moved m x bound)
-moved_by f stride e Stay x bound = refl
-moved_by f stride e Back x bound = ⊎_elim
-    (λ h.
-    let t = lt-ltb 0 x h in
-    let k : x ≡ (x - 1) + 1 = omega arith in
-    let less : f x - stride ≡ f (x - 1) = omega (arith, ap f k, e (x - 1)) in
-    cond-true (ltb 0 x) _ _ t ∙ ap Some less ∙ sym (ap (onto f) (cond-true (ltb 0 x) (Some (x - 1)) None t)))
-    (λ h.
-    let t = le-ltb 0 x h in
-    cond-false (ltb 0 x) _ _ t ∙ sym (ap (onto f) (cond-false (ltb 0 x) (Some (x - 1)) None t)))
-    (cases_lt 0 x)
-moved_by f stride e Forth x bound = ⊎_elim
-    (λ h.
-    let t = lt-ltb (x + 1) bound h in
-    cond-true (ltb (x + 1) bound) _ _ t ∙ ap Some (sym (e x)) ∙ sym (ap (onto f) (cond-true (ltb (x + 1) bound) (Some (x + 1)) None t)))
-    (λ h.
-    let t = le-ltb (x + 1) bound h in
-    cond-false (ltb (x + 1) bound) _ _ t ∙ sym (ap (onto f) (cond-false (ltb (x + 1) bound) (Some (x + 1)) None t)))
-    (cases_lt (x + 1) bound)
+moved_by f stride e m x bound = grind (arith, nat_tests, e)
 
 slide_none : (m : Move) (x bound stride : ℕ) → slide m x bound stride None ≡ None
-slide_none Back x bound stride = refl
-slide_none Stay x bound stride = refl
-slide_none Forth x bound stride = refl
+slide_none m x bound stride = grind arith
 
 module _ (s : Shape) where
   through : (c r l : ℕ) (m : Move) → slide m l s.layers (s.columns * s.rows) (Some (number_of s (coordinates c r l))) ≡ number_at s (Some c) (Some r) (moved m l s.layers)

@@ -2,7 +2,7 @@
 ghost use Rattle.std.specs.Prelude.{◌≡◌, ◌<◌, ◌≤◌, ◌^◌};
 ghost use Rattle.grid.specs.Strides.{stride_back, stride_forth};
 
-// One coordinate of a place, its bound, and by how much the number of a place grows with it.
+// One coordinate of a place, its bound, and by how much the number of a place grows with it: at most a layer's places.
 #[derive(Clone, Copy)]
 pub(super) struct Axis {
     pub(super) at: u32,

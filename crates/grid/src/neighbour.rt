@@ -23,7 +23,8 @@ const DIRECTIONS: [Direction; 10] = [
     Direction::Down,
 ];
 
-// The ten directions, in the order in which a wire is traced back. They lead to exactly the places that a step joins.
+// The ten directions, in the order in which a wire is traced back. They lead to exactly the places that a step joins;
+// a constant could not promise that.
 #[tactic(auto, using(crate::proofs::Joining::exact))]
 pub fn directions() -> [Direction; 10]
     ensures is { result ≡ order }
@@ -108,6 +109,7 @@ impl Site {
     pub fn neighbour(self, direction: Direction) -> Option<u32>
         ensures { result ≡ neighbour_of self.shape self.place direction }
     {
+        // A table of moves for each direction would be no plainer, and would cost three tests where one or two are needed.
         let place = self.place;
         match direction {
             Direction::West => self.across().back(place),

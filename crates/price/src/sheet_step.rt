@@ -1,9 +1,7 @@
 // The wire on a sheet: it is laid with clearance and outside of a rectangle, and the board is printed.
-use clearance::Clearance;
-use grid::{Coordinates, Shape, SheetFault};
+use grid::{Shape, SheetFault};
 use keep_out::Row;
 use piles::{cover_apart_over_clear, cover_clear};
-use sheet::Sheet;
 use wide::WideSheet;
 
 // The place in the upper right corner of the first layer is kept out.
@@ -17,18 +15,6 @@ fn corner(shape: Shape) -> Row {
     }
 }
 
-// Lays the wire for net 1 on a bare sheet, and then the place beside its start for net 2.
-fn lay_wire(
-    shape: Shape,
-    cells: &mut [u16],
-    wire: &[u32],
-) -> (Result<(), SheetFault>, Result<(), SheetFault>) {
-    let mut sheet = WideSheet::new(shape, cells);
-    let first = cover_apart_over_clear(&mut sheet, corner(shape), wire, 1);
-    let second = cover_clear(&mut sheet, &[1], 2);
-    (first, second)
-}
-
 fn print_answer(
     rt: &HostRuntime,
     what: &str,
@@ -36,16 +22,12 @@ fn print_answer(
 ) -> anyhow::Result<()> {
     match answer {
         Ok(()) => println!(rt; "  {what}: ok")?,
-        Err(fault) => {
-            let number = fault.number();
-            let named = fault.named();
-            println!(rt; "  {what}: no {number} {named}")?
-        }
+        Err(fault) => println!(rt; "  {what}: no {fault}")?,
     }
     Ok(())
 }
 
-// Prints the copper of a row of places.
+// Prints the copper of a row of places. In a sheet copper is a number: 0 is bare and 65,535 barred.
 fn print_row(rt: &HostRuntime, cells: &[u16]) -> anyhow::Result<()> {
     print!(rt; " ")?;
     for copper in cells {
@@ -59,14 +41,17 @@ fn print_row(rt: &HostRuntime, cells: &[u16]) -> anyhow::Result<()> {
     Ok(())
 }
 
-// Lays the wire and prints the board, row by row, one layer after the other.
+// Lays the wire for net 1 on a bare sheet, and then the place beside its start for net 2. Prints the board, row by row, one
+// layer after the other.
 pub fn print_sheet(rt: &HostRuntime, shape: Shape, wire: &[u32]) -> anyhow::Result<()> {
     let mut cells = vec![in rt.alloc(); 0u16; shape.places() as usize]?;
-    let (first, second) = lay_wire(shape, cells.as_mut_slice(), wire);
+    let mut sheet = WideSheet::new(shape, &mut cells);
+    let first = cover_apart_over_clear(&mut sheet, corner(shape), wire, 1);
+    let second = cover_clear(&mut sheet, &[1], 2);
     println!(rt; "sheet")?;
     print_answer(rt, "the wire for net 1", first)?;
     print_answer(rt, "place 1 for net 2", second)?;
-    for row in cells.as_slice().chunks(shape.columns as usize) {
+    for row in cells.chunks(shape.columns as usize) {
         print_row(rt, row)?;
     }
     Ok(())

@@ -1,5 +1,5 @@
 -- The price that is computed is what the wire costs.
-use Rattle.std.proofs.Common.{◌≡◌, ℕ, ◌+◌, ◌<◌, ◌≤◌, Bool, true, false, cond, ltb, ◌↔◌, List, [], ◌∷◌, length, slice_index_or, drop, Some, None, Ok, Err, Option, Result, sym, refl, ap, ◌∙◌, ⊎_elim, arith}
+use Rattle.std.proofs.Common.{◌≡◌, ℕ, ◌+◌, ◌<◌, ◌≤◌, Bool, true, false, cond, ltb, ◌↔◌, List, [], ◌∷◌, length, slice_index_or, drop, Some, None, Ok, Err, Option, Result, sym, refl, ap, ◌∙◌, ⊎_elim}
 use mathlib.Core.List.{reverse_aux}
 use Rattle.std.proofs.lemmas.List.{drop_more, drop_all}
 use Rattle.std.proofs.lemmas.Bool.{cases_lt, lt-ltb, le-ltb, cond-true, cond-false}
@@ -48,9 +48,6 @@ module _ {C : Type 0} (t : Rates C) (s : Shape) where
     had : AllHad t steps
     charged : charge t (reverse_aux steps done) ≡ Some d
 
-  err_ok : {A : Type 0} {E : Type 0} {X : Type 0} {e : E} {a : A} → Err e ≡ Ok a → X
-  err_ok {e} {a} q = let z : ◌≡◌ {A = ℕ} 0 1 = cc in absurd (omega arith)
-
   -- a priced step, taken apart
   record Stepped (p q : ℕ) (c e : C) : Type 0 where
     by : Step
@@ -68,22 +65,19 @@ module _ {C : Type 0} (t : Rates C) (s : Shape) where
   gone n p q c rest d e = joined (step_between s p q) refl e
     where
       made : (k : Step) → step_between s p q ≡ Some k → t.has k ≡ true → (o : Option C) → t.after c k ≡ o → go_on n (ended k o) rest ≡ Ok d → Gone n p q c rest d
-      made k b h None a e = err_ok e
+      made k b h None a e = cc
       made k b h (Some x) a e = record { cost = x; step = record { by = k; between = b; had = h; made = a }; on = e }
 
       had : (k : Step) → step_between s p q ≡ Some k → (h : Bool) → t.has k ≡ h → go_on n (cond h (ended k (t.after c k)) (Err (Lacked k))) rest ≡ Ok d → Gone n p q c rest d
       had k b true h e = made k b h (t.after c k) refl e
-      had k b false h e = err_ok e
+      had k b false h e = cc
 
       joined : (o : Option Step) → step_between s p q ≡ o → go_on n (leg_price t c o) rest ≡ Ok d → Gone n p q c rest d
-      joined None b e = err_ok e
+      joined None b e = cc
       joined (Some k) b e = had k b (t.has k) refl e
 
   came : (n p q : ℕ) (c e : C) (rest : C → Result C WireFault) → Stepped p q c e → go_on n (step_price t s p q c) rest ≡ rest e
-  came n p q c e rest x =
-      ap (λ o. go_on n (leg_price t c o) rest) x.between ∙
-      ap (λ r. go_on n r rest) (cond-true (t.has x.by) _ _ x.had) ∙
-      ap (λ o. go_on n (ended x.by o) rest) x.made
+  came n p q c e rest x = rw (x.between, x.had, x.made) refl
 
   -- what is priced is a wire
   rest_from : (ps : List ℕ) (n p : ℕ) (c d : C) (done : List Step) → p < count_of s → charge t done ≡ Some c → price_from t s n p c ps ≡ Ok d → Rest p ps done d
@@ -98,7 +92,7 @@ module _ {C : Type 0} (t : Rates C) (s : Shape) where
 
   -- no refused cost is mended by more steps
   before : (k : Step) (o : Option C) (d : C) → then t o k ≡ Some d → (c : C) × (o ≡ Some c)
-  before k None d e = let z : ◌≡◌ {A = ℕ} 0 1 = cc in absurd (omega arith)
+  before k None d e = cc
   before k (Some c) d e = (c, refl)
 
   earlier : (ks done : List Step) (d : C) → charge t (reverse_aux ks done) ≡ Some d → (c : C) × (charge t done ≡ Some c)
@@ -124,13 +118,13 @@ module _ {C : Type 0} (t : Rates C) (s : Shape) where
   first_inside p (q ∷ ps) (k ∷ ks) w = w.0.from
 
   costs_from : (ws : List ℕ) (d : C) → wire_price t s ws ≡ Ok d → Costs t s ws d
-  costs_from [] d e = err_ok e
+  costs_from [] d e = cc
   costs_from (p ∷ ps) d e = ⊎_elim
       (λ h.
       let f = sym (cond-true (ltb p (count_of s)) (price_from t s 1 p t.nothing ps) _ (lt-ltb _ _ h)) ∙ e in
       let r = rest_from ps 1 p t.nothing d [] h refl f in
       record { steps = r.steps; walk = r.walk; had = r.had; charged = r.charged })
-      (λ h. err_ok (sym (cond-false (ltb p (count_of s)) (price_from t s 1 p t.nothing ps) _ (le-ltb _ _ h)) ∙ e))
+      (λ h. let f = sym (cond-false (ltb p (count_of s)) (price_from t s 1 p t.nothing ps) _ (le-ltb _ _ h)) ∙ e in cc)
       (cases_lt p (count_of s))
 
   price_from_costs : (ws : List ℕ) (d : C) → Costs t s ws d → wire_price t s ws ≡ Ok d

@@ -1,4 +1,4 @@
-use Rattle.std.proofs.Common.{◌≡◌, ◌+◌, Result, Ok, Err, refl, sym, ◌∙◌, arith, rules}
+use Rattle.std.proofs.Common.{◌≡◌, ◌+◌, Result, Ok, Err, refl, arith, rules}
 use Rattle.pricing.specs.declared.leg.Leg.{Leg}
 use Rattle.pricing.specs.declared.fault.StepFault.{StepFault}
 use Rattle.pricing.specs.declared.fault.WireFault.TheVariants.{AtStep}
@@ -14,13 +14,13 @@ returns-in_err-leg g c = let is = stops c.price_step.result refl in record { is 
     stops (Ok leg) e = absurd (search rules)
     stops (Err fault) e =
         let gives : c.from_residual-in_err-leg.result ≡ Err (AtStep (c.loop-i.i-counter + 1) fault) = search rules in
-        let rest = price_stops g.T.Tariff.rates c.args.shape c.in_ok-start.rest.now c.loop-i.i-counter (c.loop-i.i-counter + 1) c.loop-i.from c.loop-i.cost fault (omega arith) (sym e ∙ c.price_step.ensures) in
+        let rest = price_stops g.T.Tariff.rates c.args.shape c.in_ok-start.rest.now c.loop-i.i-counter (c.loop-i.i-counter + 1) c.loop-i.from c.loop-i.cost fault (omega arith) (cc (c.price_step.ensures)) in
         cc (c.loop-i.invariant)
 
 pub loop-i-preserved : goal.loop-i-preserved
 loop-i-preserved g c =
     let gives : Ok c.in_ok-leg.leg ≡ c.price_step.result = search rules in
-    let rest = price_goes g.T.Tariff.rates c.args.shape c.in_ok-start.rest.now c.loop-i.i-counter (c.loop-i.i-counter + 1) c.loop-i.from c.loop-i.cost c.in_ok-leg.leg (omega arith) (gives ∙ c.price_step.ensures) in
+    let rest = price_goes g.T.Tariff.rates c.args.shape c.in_ok-start.rest.now c.loop-i.i-counter (c.loop-i.i-counter + 1) c.loop-i.from c.loop-i.cost c.in_ok-leg.leg (omega arith) (cc (c.price_step.ensures)) in
     cc (c.loop-i.invariant)
 
 pub returns : goal.returns
