@@ -21,10 +21,8 @@ impl fmt::Display for ViaFirstCost {
     ghost output = { λ c. Some (via_first_text c) };
 
     fn fmt<W: fmt::Write>(&self, f: &mut fmt::Formatter<W>) -> fmt::Result {
-        let vias = self.vias;
-        let a = self.rest.a;
-        let b = self.rest.b;
-        write!(f, "{vias} vias ({a}, {b})")
+        let ViaFirstCost { vias, rest } = *self;
+        write!(f, "{vias} vias {rest}")
     }
 }
 
