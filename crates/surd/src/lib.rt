@@ -79,8 +79,7 @@ impl fmt::Display for Surd {
     ghost output = { λ x. Some (written x) };
 
     fn fmt<W: fmt::Write>(&self, f: &mut fmt::Formatter<W>) -> fmt::Result {
-        let a = self.a;
-        let b = self.b;
+        let Surd { a, b } = *self;
         write!(f, "({a}, {b})")
     }
 }

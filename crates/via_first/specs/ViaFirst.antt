@@ -2,7 +2,7 @@
 use Rattle.std.specs.Prelude.{if◌then◌else◌, ◌≡◌, ℕ, ◌+◌, ◌<◌, Bool, true, ◌&&◌, ◌||◌, ◌⊎◌, List, ◌++◌, Some, None, codes, decimal, Option, ◌==◌, nat_le, nat_lt}
 use Rattle.grid.specs.declared.step.Step.{Step}
 use Rattle.grid.specs.declared.step.Step.TheVariants.{Straight, Diagonal, Via}
-use Rattle.surd.specs.Surds.{surd, is_below, Separated}
+use Rattle.surd.specs.Surds.{surd, is_below, Separated, written}
 use Rattle.tariff.specs.Rates.{Rates}
 use Rattle.via_first.specs.declared.ViaFirstCost.{ViaFirstCost}
 
@@ -49,4 +49,4 @@ via_first_rates = record {
 
 -- how a cost is written: 3 vias (2, 1)
 abbrev pub via_first_text : ViaFirstCost → List ℕ
-via_first_text c = decimal c.vias ++ (codes " vias (" ++ (decimal c.rest.a ++ (codes ", " ++ (decimal c.rest.b ++ codes ")"))))
+via_first_text c = decimal c.vias ++ (codes " vias " ++ written c.rest)
