@@ -3,12 +3,12 @@ use Rattle.std.proofs.Common.{◌≡◌, ℕ, Bool, true, false, cond, List, [],
 use Rattle.std.proofs.lemmas.Bool.{cond-true, cond-false, cases_Bool}
 use Rattle.grid.specs.declared.fault.SheetFault.{SheetFault}
 use Rattle.grid.specs.Faults.{Refusal, refusal}
-use Rattle.model.specs.Sheets.{Ground, Metal, Sheet, sheet, ask}
+use Rattle.model.specs.Sheets.{Metal, Sheet, ask}
 use Rattle.model.specs.Paths.{on, cover_answer, Covers}
 use Rattle.keep_out.specs.declared.row.Row.{Row}
 use Rattle.keep_out.specs.Rectangles.{is_rectangle}
-use Rattle.keep_out.specs.KeptOut.{apart_ground, add_answer}
-use Rattle.piles.specs.Piled.{CopperCovered}
+use Rattle.keep_out.specs.KeptOut.{add_answer}
+use Rattle.piles.specs.Piled.{apart, CopperCovered}
 
 -- what follows a question that holds
 passed : (b : Bool) (f : Refusal) (rest : Result (Unit {0}) Refusal) → Ok tt ≡ ask b f rest → b ≡ true
@@ -18,9 +18,9 @@ passed b f rest e = ⊎_elim
     (cases_Bool b)
 
 -- f is what lies over the keep-out, s the sheet below it
-module _ {S : Type 0} (area : S → Ground) (metal : S → Metal) (f : Ground → Ground) where
+module _ {S : Type 0} (board : S → Sheet) (f : Sheet → Sheet) where
   abbrev answer_at : List Row → S → List ℕ → ℕ → Result (Unit {0}) Refusal
-  answer_at xs s p n = cover_answer (sheet (f (apart_ground xs (area s))) (metal s)) p n
+  answer_at xs s p n = cover_answer (f (apart xs (board s))) p n
 
   pub apart_answer : (x : Row) (s s' s'' : S) (xs xs' : List Row) (p : List ℕ) (n : ℕ) (a : Result (Unit {0}) Refusal) → s' ≡ s → s'' ≡ s' → xs ≡ [] → xs' ≡ xs ++ (x ∷ []) → Ok tt ≡ add_answer xs x → a ≡ answer_at xs' s'' p n → a ≡ ask (is_rectangle x) (refusal 1 0) (answer_at (x ∷ []) s p n)
   apart_answer x s s' s'' xs xs' p n a same stays none one added answer =
