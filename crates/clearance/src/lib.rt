@@ -1,15 +1,15 @@
 // A layer that keeps clear: what is open above has only open places around it below.
 #![tactic(auto)]
 
-ghost use Rattle.std.specs.Prelude.{◌≡◌, ◌<◌, ◌≤◌, true, ◌↔◌};
+ghost use Rattle.std.specs.Prelude.{◌≡◌, ◌<◌, ◌≤◌, refl};
 ghost use Rattle.grid.specs.Steps.{moved, beyond};
-ghost use Rattle.model.specs.Clear.{is_clear, clear_ground, ClearAround};
-ghost use Rattle.model.specs.Layers.{lent_through};
-ghost use Rattle.model.proofs.ClearLaws.{clear_sound};
+ghost use Rattle.model.specs.Clear.{is_clear, ClearAround};
+ghost use Rattle.model.proofs.ClearLaws.{clear_opened, clear_narrows, clear_exact};
 ghost use Rattle.clearance.specs.Offsets.{offset_move, offset_way};
 
-use grid::{Coordinates, Shape, SheetFault, Site};
-use sheet::{Ground, Sheet};
+use grid::{Coordinates, Site};
+use layer::{Layer, Narrowing};
+use sheet::Ground;
 
 // A coordinate moved by an offset: 0 is one less, 1 the same and 2 one more. Absent past the edges of the board.
 fn moved_by(at: u32, offset: u32, bound: u32) -> Option<u32>
@@ -45,97 +45,42 @@ fn beside(site: Site, down: u32, across: u32) -> Option<u32>
 fn is_clear<G: Ground>(area: &G, site: Site, down: u32, across: u32, net: u16) -> bool
     requires rows { down < 3 }
     requires columns { across < 3 }
-    ensures { result ≡ is_clear (G.Ground.meaning area.now) net (beyond site.shape site.at (offset_way down across)) }
+    ensures { result ≡ is_clear (G.meaning area.now) net (beyond site.shape site.at (offset_way down across)) }
 {
-    match beside(site, down, across) {
-        Some(there) => area.is_open(there, net),
-        None => true,
-    }
+    beside(site, down, across).is_none_or(|there| area.is_open(there, net))
 }
+
+// What keeps clear.
+#[derive(Clone, Copy, Default)]
+pub struct Clear;
 
 // The layer over a sheet that it borrows.
-#[derive(Drop)]
-pub struct Clearance<'a, S> {
-    below: &'a mut S,
-}
+pub type Clearance<'a, S> = Layer<'a, S, Clear>;
 
-impl<'a, S> Clearance<'a, S> {
-    // Puts the layer over a sheet.
-    pub fn new(below: &'a mut S) -> Clearance<'a, S>
-        ensures is { result.below.now ≡ below.old }
-        ensures lent { result.below.ghost_name ≡ below.entry.ghost_name }
-    {
-        Clearance { below }
-    }
-}
+impl Narrowing for Clear {
+    ghost opened = { λ _. clear_opened };
 
-impl<'a, S: Ground> Ground for Clearance<'a, S> {
-    ghost meaning = { λ s. clear_ground (S.Ground.meaning s.below.now) };
+    ghost Opens = { λ _. ClearAround };
 
-    ghost sound = { λ s. clear_sound (S.Ground.meaning s.below.now) (S.Ground.sound s.below.now) };
+    ghost narrows = { λ _. clear_narrows };
 
-    fn shape(&self) -> Shape {
-        self.below.shape()
-    }
+    ghost exact = { λ _ g sound p n. clear_exact g p n sound _ refl };
 
     // Whether the place and its straight and diagonal neighbours are open below. At most nine questions are asked below,
     // none after the first place that is closed.
-    fn is_open(&self, place: u32, net: u16) -> bool
-        ensures is { result ≡ (clear_ground (S.Ground.meaning self.now.below.now)).opened place net }
-        ensures around { (result ≡ true) ↔ ClearAround (S.Ground.meaning self.now.below.now) place net }
-    {
-        let Some(site) = self.below.shape().site(place) else {
+    fn is_open<G: Ground>(&self, below: &G, place: u32, net: u16) -> bool {
+        let Some(site) = below.shape().site(place) else {
             return false;
         };
         let mut clear = true;
         'around: for down in 0..3 {
             for across in 0..3 {
-                if !is_clear(self.below, site, down, across, net) {
+                if !is_clear(below, site, down, across, net) {
                     clear = false;
                     break 'around;
                 }
             }
         }
         clear
-    }
-}
-
-impl<'a, S: Sheet> Sheet for Clearance<'a, S> {
-    ghost metal = { λ s. S.Sheet.metal s.below.now };
-
-    ghost held = { λ s. lent_through s.below.ghost_name (S.Sheet.held s.below.now) };
-
-    fn copper(&self, place: u32) -> Option<u16> {
-        self.below.copper(place)
-    }
-
-    fn spares(&self, needed: u32) -> bool {
-        self.below.spares(needed)
-    }
-
-    // The place is asked whether it is open here before the sheet below is asked.
-    fn lay(&mut self, place: u32, net: u16) -> Result<(), SheetFault> {
-        if place >= self.below.shape().places() {
-            return Err(SheetFault::OutsideShape(place));
-        }
-        if net < 1 || net > 65534 {
-            return Err(SheetFault::NoNet(u32::from(net)));
-        }
-        if !self.is_open(place, net) {
-            return Err(SheetFault::Closed(place));
-        }
-        self.below.lay(place, net)
-    }
-
-    fn lift(&mut self, place: u32) -> Result<(), SheetFault> {
-        self.below.lift(place)
-    }
-
-    fn bar(&mut self, place: u32) -> Result<(), SheetFault> {
-        self.below.bar(place)
-    }
-
-    fn wipe(&mut self) {
-        self.below.wipe();
     }
 }

@@ -1,5 +1,6 @@
 -- Keep-out: what is open lies in no rectangle that is held.
-use Rattle.std.specs.Prelude.{◌≡◌, ℕ, Bool, true, false, not, ◌&&◌, ◌||◌, ◌⊎◌, List, [], ◌∷◌, ◌++◌, length, take, Ok, Err, Result, nat_lt}
+use Rattle.std.specs.List.{list_any}
+use Rattle.std.specs.Prelude.{◌≡◌, ℕ, Bool, true, not, ◌&&◌, ◌⊎◌, List, [], ◌∷◌, ◌++◌, length, take, Ok, Err, Result, nat_lt}
 use Rattle.grid.specs.declared.shape.Shape.{Shape}
 use Rattle.grid.specs.declared.shape.Coordinates.{Coordinates}
 use Rattle.grid.specs.declared.fault.SheetFault.{SheetFault}
@@ -16,9 +17,8 @@ abbrev pub held_rows : Table → List Row
 held_rows t = take t.count t.rows
 
 -- one of the rows has the coordinates in it
-unfoldable pub kept_out : List Row → Coordinates → Bool
-kept_out [] p = false
-kept_out (x ∷ xs) p = has_in x p || kept_out xs p
+abbrev pub kept_out : List Row → Coordinates → Bool
+kept_out xs p = list_any (λ (x : Row). has_in x p) xs
 
 -- none of the rows has the place in it
 abbrev pub is_apart : List Row → Shape → ℕ → Bool

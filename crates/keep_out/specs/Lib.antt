@@ -1,2 +1,3 @@
 pub mod Rectangles
 pub mod KeptOut
+pub mod ApartLaws

@@ -6,7 +6,7 @@ use super::rectangle::Rectangle;
 use grid::{Coordinates, SheetFault};
 
 // Five numbers that may be a rectangle's.
-#[derive(Clone, Copy)]
+#[derive(Clone, Copy, Default)]
 pub struct Row {
     pub layer: u32,
     pub left: u32,
@@ -15,11 +15,13 @@ pub struct Row {
     pub bottom: u32,
 }
 
-impl Rectangle {
-    // The rectangle with the numbers of a row, where they are within their limits.
-    pub fn new(row: Row) -> Result<Rectangle, SheetFault>
-        ensures { told result ≡ rectangle_answer row }
-    {
+// The rectangle with the numbers of a row, where they are within their limits.
+impl TryFrom<Row> for Rectangle {
+    type Error = SheetFault;
+
+    ghost try_from_gives = { λ row answer. told answer ≡ rectangle_answer row };
+
+    fn try_from(row: Row) -> Result<Rectangle, SheetFault> {
         let Row {
             layer,
             left,
@@ -38,17 +40,17 @@ impl Rectangle {
             bottom,
         })
     }
+}
 
+impl Rectangle {
     // Whether the coordinates lie in the rectangle.
     pub fn contains(self, at: Coordinates) -> bool
         ensures is { result ≡ is_within (row_of self) at }
         ensures lies { (result ≡ true) ↔ LiesIn self at }
     {
         at.layer == self.layer
-            && self.left <= at.column
-            && at.column <= self.right
-            && self.top <= at.row
-            && at.row <= self.bottom
+            && (self.left..=self.right).contains(&at.column)
+            && (self.top..=self.bottom).contains(&at.row)
     }
 }
 
@@ -57,9 +59,6 @@ impl Row {
     pub(super) fn has(self, at: Coordinates) -> bool
         ensures { result ≡ has_in self at }
     {
-        match Rectangle::new(self) {
-            Ok(rectangle) => rectangle.contains(at),
-            Err(_) => false,
-        }
+        Rectangle::try_from(self).is_ok_and(|rectangle| rectangle.contains(at))
     }
 }

@@ -6,49 +6,32 @@ ghost use Rattle.keep_out.specs.KeptOut.{held_rows, kept_out, push_answer, after
 use super::row::Row;
 use grid::{Coordinates, SheetFault};
 
-// The first `count` rows are held. A row is no rectangle, for no struct that keeps a bound lies in an array: a rectangle is
-// made from a row after a check.
+// The first `count` rows are held. The table is a plain struct of 64 plain rows, as it is laid down; a rectangle is made
+// from a row after a check.
 #[derive(Clone, Copy)]
 pub struct Table {
     rows: [Row; 64],
     count: usize,
 }
 
-// Whether the coordinates lie in the rectangle of one of the rows.
-fn any_has(rows: &[Row], at: Coordinates) -> bool
-    ensures { result ≡ kept_out rows.now at }
-{
-    for row in rows {
-        if row.has(at) {
-            return true;
-        }
-    }
-    false
-}
+// A table that holds no row.
+impl Default for Table {
+    ghost is_default = { λ table. held_rows table ≡ [] };
 
-impl Table {
-    // A table that holds no row.
-    pub(super) fn new() -> Table
-        ensures { held_rows result ≡ [] }
-    {
-        let row = Row {
-            layer: 0,
-            left: 0,
-            top: 0,
-            right: 0,
-            bottom: 0,
-        };
+    fn default() -> Table {
         Table {
-            rows: [row; 64],
+            rows: [Row::default(); 64],
             count: 0,
         }
     }
+}
 
+impl Table {
     // Whether the coordinates lie in a rectangle that is held.
     pub(super) fn has(&self, at: Coordinates) -> bool
         ensures { result ≡ kept_out (held_rows self.now) at }
     {
-        any_has(&self.rows[0..self.count.min(64)], at)
+        self.rows.iter().take(self.count).any(|row| row.has(at))
     }
 
     // Holds one more row. Asks whether fewer than 64 are held (2).
@@ -56,8 +39,7 @@ impl Table {
         ensures answer { answered result ≡ push_answer (held_rows self.old) }
         ensures after { held_rows self.new ≡ after_push (held_rows self.old) row result }
     {
-        let rows: &[Row] = &self.rows;
-        if self.count >= rows.len() {
+        if self.count >= self.rows.len() {
             return Err(SheetFault::ShortList(65));
         }
         self.rows[self.count] = row;

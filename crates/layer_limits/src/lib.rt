@@ -5,7 +5,7 @@
 mod tests {
     use clearance::Clearance;
     use grid::{Shape, SheetFault};
-    use keep_out::{KeepOut, Row};
+    use keep_out::{AddRectangle, KeepOut, Row};
     use sheet::{Ground, Sheet};
     use std::process::Abort;
     use std::test::Fail;
@@ -22,15 +22,9 @@ mod tests {
     }
 
     // How many of the first nine places are open to a net with clearance.
-    fn open_clear<S: Sheet>(sheet: &mut S, net: u16) -> u32 {
+    fn open_clear<S: Sheet>(sheet: &mut S, net: u16) -> usize {
         let layer = Clearance::new(sheet);
-        let mut count = 0u32;
-        for place in 0..9 {
-            if layer.is_open(place, net) {
-                count = count.saturating_add(1);
-            }
-        }
-        count
+        (0..9).filter(|place| layer.is_open(*place, net)).count()
     }
 
     // A barred corner closes itself and its three neighbours, a barred centre closes all nine places.
@@ -102,9 +96,9 @@ mod tests {
         };
         let mut cells = [0u16; 4];
         let mut sheet = WideSheet::new(shape, &mut cells);
-        let found = add_all(&mut sheet, each, count);
-        assert_eq!(rt; found.0, answer);
-        assert!(rt; found.1 == open);
+        let (added, opened) = add_all(&mut sheet, each, count);
+        assert_eq!(rt; added, answer);
+        assert_eq!(rt; opened, open);
         Ok(())
     }
 

@@ -10,7 +10,7 @@ use Rattle.grid.specs.Steps.{Joins, kind, neighbour_of, Among}
 use Rattle.grid.proofs.Joining.{joined}
 use Rattle.model.specs.Sheets.{Ground, Sound}
 use Rattle.model.specs.Clear.{around, is_clear, all_clear, clear_ground, ClearAround}
-use Rattle.model.proofs.NarrowLaws.{Narrows, narrow_sound}
+use Rattle.model.specs.Layers.{Narrows}
 
 -- the neighbour of p in the direction d is clear
 abbrev pub Clear : Ground → ℕ → ℕ → Direction → Type 0
@@ -45,9 +45,6 @@ clear_narrows = record {
       let k = clear_keeps g g' n m (neighbour_of g.shape p d) (all_at g p n around d rest i) in
       subst (λ (s : Shape). is_clear g' n (neighbour_of s p d) ≡ true) (sym e) k));
 }
-
-pub clear_sound : (g : Ground) → Sound g → Sound (clear_ground g)
-clear_sound = narrow_sound clear_opened clear_narrows
 
 -- the steps that stay on a layer
 abbrev pub Level : Step → Type 0

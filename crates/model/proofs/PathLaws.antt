@@ -38,7 +38,7 @@ ask_no : (t : Bool) (f : Refusal) (rest : Result (Unit {0}) Refusal) → t ≡ f
 ask_no t f rest e = cond-false t rest (Err f) e
 
 -- a question that was passed
-passed : (t : Bool) (f : Refusal) (rest : Result (Unit {0}) Refusal) → ask t f rest ≡ Ok tt → (t ≡ true) × (rest ≡ Ok tt)
+pub passed : (t : Bool) (f : Refusal) (rest : Result (Unit {0}) Refusal) → ask t f rest ≡ Ok tt → (t ≡ true) × (rest ≡ Ok tt)
 passed true f rest e = (refl, e)
 passed false f rest e = err_ok f e
 

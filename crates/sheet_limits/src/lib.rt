@@ -252,8 +252,7 @@ mod tests {
         let Ok(shape) = Shape::new(2, 2, 1) else {
             return Err(Fail::new("no shape"));
         };
-        for case in CASES {
-            let Case(entries, calls, answer, left) = case;
+        for Case(entries, calls, answer, left) in CASES {
             let mut cells = [9u16; 5];
             assert!(rt; entries <= 5);
             assert_eq!(rt; make_all(shape, &mut cells[0..entries], calls), answer);
@@ -289,8 +288,7 @@ mod tests {
         let Ok(shape) = Shape::new(2, 2, 1) else {
             return Err(Fail::new("no shape"));
         };
-        for question in QUESTIONS {
-            let Question(entries, place, net, open, copper, needed, spares) = question;
+        for Question(entries, place, net, open, copper, needed, spares) in QUESTIONS {
             assert!(rt; entries <= 5);
             let mut cells = [9u16; 5];
             let mut sheet = WideSheet::new(shape, &mut cells[0..entries]);

@@ -1,43 +1,14 @@
--- What rows keep out: exactly what lies in a rectangle among them.
-use Rattle.std.proofs.Common.{◌≡◌, ℕ, zero, suc, ◌<◌, ◌≤◌, min, Bool, true, false, not, ◌&&◌, ◌↔◌, List, [], ◌∷◌, length, get_or, take, Some, sym, refl, ap, ◌∙◌, subst, inl, inr, ⊎_elim, le_of_suc-le-suc, not-suc-le-zero, arith}
-use Rattle.std.proofs.lemmas.List.{take_all}
-use Rattle.std.proofs.lemmas.Bool.{and_parts, and_from, or_cases, or_parts, or_from, or_left, or_right, cases_Bool, both_ways, not-true, not_from_false, cases_lt}
+-- What rows keep out is exactly what lies in a rectangle among them.
+use Rattle.std.proofs.Common.{◌≡◌, ℕ, Bool, true, false, ◌↔◌, List, [], ◌∷◌, sym, refl, ◌∙◌, subst, inl, inr, ⊎_elim, arith}
+use Rattle.std.proofs.lemmas.Bool.{and_parts, and_from, or_cases, or_parts, cases_Bool, both_ways, not-true, not_from_false}
 use Rattle.std.proofs.lemmas.Bool.Decides.{nat_tests}
-use Rattle.grid.specs.declared.shape.Shape.{Shape}
 use Rattle.grid.specs.declared.shape.Coordinates.{Coordinates}
-use Rattle.grid.specs.Places.{coordinates_of, coordinates_answer}
-use Rattle.grid.proofs.Numbering.{located}
+use Rattle.grid.specs.Places.{coordinates_of}
 use Rattle.model.specs.Sheets.{Ground}
 use Rattle.keep_out.specs.declared.rectangle.Rectangle.{Rectangle}
 use Rattle.keep_out.specs.declared.row.Row.{Row}
 use Rattle.keep_out.specs.Rectangles.{row_of, is_rectangle, is_within, has_in, LiesIn}
 use Rattle.keep_out.specs.KeptOut.{kept_out, is_apart, apart_ground, Holds, OpenApart}
-
--- the row with the number k, and a row past the end
-abbrev pub no_row : Row
-no_row = record { layer = 0; left = 0; top = 0; right = 0; bottom = 0 }
-
-abbrev pub row_at : List Row → ℕ → Row
-row_at xs k = get_or xs k no_row
-
--- a loop over the rows asks each
-pub kept_none : (xs : List Row) (p : Coordinates) → ((k : ℕ) → k < length xs → has_in (row_at xs k) p ≡ false) → kept_out xs p ≡ false
-unfolding kept_out
-kept_none [] p h = refl
-kept_none (x ∷ xs) p h = or_from (has_in x p) (kept_out xs p) (h 0 (omega arith)) (kept_none xs p (λ k l. h (suc k) (omega arith)))
-
-pub kept_at : (xs : List Row) (p : Coordinates) (k : ℕ) → k < length xs → has_in (row_at xs k) p ≡ true → kept_out xs p ≡ true
-unfolding kept_out
-kept_at [] p k l h = absurd (not-suc-le-zero l)
-kept_at (x ∷ xs) p zero l h = or_left (has_in x p) (kept_out xs p) h
-kept_at (x ∷ xs) p (suc k) l h = or_right (has_in x p) (kept_out xs p) (kept_at xs p k (le_of_suc-le-suc l) h)
-
--- a list has no more rows than its length
-pub take_most : (xs : List Row) (n m : ℕ) → length xs ≤ m → take (min n m) xs ≡ take n xs
-take_most xs n m h = ⊎_elim
-    (λ (l : n < m). ap (λ (k : ℕ). take k xs) (omega arith))
-    (λ (l : m ≤ n). take_all (min n m) xs (omega arith) ∙ sym (take_all n xs (omega arith)))
-    (cases_lt n m)
 
 module _ (r : Rectangle) where
   has_rectangle : (p : Coordinates) → LiesIn r p → has_in (row_of r) p ≡ true
@@ -65,7 +36,7 @@ rectangle_of x h = record {
 
 -- the rectangle among the rows that has the coordinates in it
 holds_in : (xs : List Row) (p : Coordinates) → kept_out xs p ≡ true → (r : Rectangle) × Holds xs r × LiesIn r p
-unfolding kept_out rectangle_of
+unfolding rectangle_of
 holds_in [] p h = absurd (both_ways false refl h)
 holds_in (x ∷ xs) p h = ⊎_elim
     (λ (e : has_in x p ≡ true).
@@ -76,7 +47,6 @@ holds_in (x ∷ xs) p h = ⊎_elim
     (or_cases (has_in x p) (kept_out xs p) h)
 
 out_of : (xs : List Row) (p : Coordinates) (r : Rectangle) → kept_out xs p ≡ false → Holds xs r → LiesIn r p → ⊥
-unfolding kept_out
 out_of [] p r h i l = i
 out_of (x ∷ xs) p r h i l =
     let (here, rest) = or_parts (has_in x p) (kept_out xs p) h in
@@ -99,9 +69,3 @@ apart_exact xs g p n r e = (
       in
       e ∙ and_from (g.opened p n) (is_apart xs g.shape p) o.below (not_from_false _ out),
 )
-
--- as the layer asks: of the shape and the coordinates that were answered
-pub apart_asked : (xs : List Row) (g : Ground) (s : Shape) (p n : ℕ) (x : Coordinates) (h : Bool) → true ≡ g.opened p n → s ≡ g.shape → Some x ≡ coordinates_answer s p → h ≡ kept_out xs x → not h ≡ (apart_ground xs g).opened p n
-apart_asked xs g s p n x h o e f k =
-    let at : x ≡ coordinates_of g.shape p = (located s p x f).is ∙ ap (λ (t : Shape). coordinates_of t p) e in
-    ap not (k ∙ ap (kept_out xs) at) ∙ ap (λ (b : Bool). b && is_apart xs g.shape p) o
