@@ -2,7 +2,7 @@
 #![tactic(auto)]
 
 ghost use Rattle.std.specs.Prelude.{◌≡◌, true, ◌&&◌, nat_le};
-ghost use Rattle.front.specs.Queue.{Queue, Starts, Puts, Takes};
+ghost use Rattle.front.specs.Queue.{Queue, Starts, Puts, Takes, offer};
 ghost use Rattle.front.specs.Counts.{CountsFollow};
 
 use grid::Step;
@@ -45,6 +45,14 @@ pub trait Front<T: Tariff> {
         requires { ordered self.old }
         ensures acts { Takes T.Tariff.rates (view self.old) (view self.new) result }
         ensures kept { ordered self.new };
+}
+
+// What a step makes of the cost taken last; none where there is no such cost, or the tariff lacks or refuses the step.
+// A step that a tariff lacks is refused, so the step itself is not asked for.
+pub fn cost_offered<T: Tariff>(last: Option<T::Cost>, step: Step) -> Option<T::Cost>
+    ensures { result ≡ offer T.Tariff.rates last step }
+{
+    last.and_then(|last| T::after(last, step))
 }
 
 // The number of waiting places follows the calls: 1 after a start, one fewer after a take, at most one more after a put.

@@ -3,18 +3,16 @@
 
 ghost use Rattle.std.specs.Prelude.{◌≡◌, ◌-◌, length};
 ghost use Rattle.tariff.specs.Rates.{Rates};
-ghost use Rattle.heap.specs.Queues.{heap_queue, empty_queue, HeapOrder};
+ghost use Rattle.heap.specs.Queues.{view_of, empty_queue, InOrder};
 
 mod records;
 mod sifting;
 mod waiting;
 
-use front::{Front, Taken};
+use front::{Front, Taken, cost_offered};
 use grid::Step;
-use records::capacity;
 pub use sift::HeapRecord;
 use tariff::Tariff;
-use waiting::{cost_offered, insert_alone, insert_or_decrease, remove_first};
 
 // The waiting places are at the positions 1 to `count` of a lent list, none at less than its parent. A place waits if its
 // record names one of these positions, and that position names the place; so the list may hold anything at first, and start
@@ -29,8 +27,8 @@ pub struct Heap<'a, C: Copy> {
 impl<'a, C: Copy> Heap<'a, C> {
     // A new front is empty, in order for every tariff, and serves one place fewer than the list has records.
     pub fn new(list: &'a mut [HeapRecord<C>]) -> Heap<'a, C>
-        ensures is { heap_queue result.list.now result.count result.last ≡ empty_queue (length list.old - 1) }
-        ensures ordered { (t : Rates C) → HeapOrder t result.list.now result.count }
+        ensures is { view_of result ≡ empty_queue (length list.old - 1) }
+        ensures ordered { (t : Rates C) → InOrder t result }
         ensures list { result.list.now ≡ list.old }
         ensures lent { result.list.ghost_name ≡ list.entry.ghost_name }
     {
@@ -40,36 +38,42 @@ impl<'a, C: Copy> Heap<'a, C> {
             last: None,
         }
     }
+
+    // How many places are served.
+    fn capacity(&self) -> usize
+        ensures { result ≡ (view_of self.now).served }
+    {
+        self.list.len().saturating_sub(1)
+    }
 }
 
 impl<'a, T: Tariff> Front<T> for Heap<'a, T::Cost> {
-    ghost view = { λ s. heap_queue s.list.now s.count s.last };
+    ghost view = { view_of };
 
-    ghost ordered = { λ s. HeapOrder T.Tariff.rates s.list.now s.count };
+    ghost ordered = { InOrder T.Tariff.rates };
 
     fn serves(&self, places: u32) -> bool {
-        places as usize <= capacity(self.list.len())
+        places as usize <= self.capacity()
     }
 
     fn start(&mut self, place: u32) -> bool {
-        if place as usize >= capacity(self.list.len()) {
+        if place as usize >= self.capacity() {
             return false;
         }
-        insert_alone::<T>(self.list, place, T::nothing());
-        self.count = 1;
+        self.count = 0;
         self.last = None;
+        self.insert::<T>(place, T::nothing());
         true
     }
 
     fn put(&mut self, place: u32, step: Step) -> bool {
-        if place as usize >= capacity(self.list.len()) {
+        if place as usize >= self.capacity() {
             return false;
         }
         let Some(cost) = cost_offered::<T>(self.last, step) else {
             return false;
         };
-        let count = self.count;
-        self.count = insert_or_decrease::<T>(self.list, count, place, cost);
+        self.offer::<T>(place, cost);
         true
     }
 
@@ -77,10 +81,8 @@ impl<'a, T: Tariff> Front<T> for Heap<'a, T::Cost> {
         if self.count == 0 {
             return None;
         }
-        let count = self.count;
-        let taken = remove_first::<T>(self.list, count);
-        self.count = count - 1;
-        self.last = Some(taken.cost);
-        Some(taken)
+        let first = self.remove_first::<T>();
+        self.last = Some(first.cost);
+        Some(first)
     }
 }

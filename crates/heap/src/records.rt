@@ -1,38 +1,49 @@
 // Reads and writes of the heap's list.
 ghost use Rattle.std.specs.Prelude.{◌≡◌, ◌+◌, ◌-◌, ◌<◌, ◌≤◌, length, Some};
-ghost use Rattle.sift.specs.Layouts.{layout, filled, priced};
+ghost use Rattle.sift.specs.Layouts.{layout, filled, priced, key};
 
+use super::Heap;
+use front::Taken;
 use sift::HeapRecord;
 
-// How many places a list of so many records serves: the first record is the heap's own.
-pub fn capacity(records: usize) -> usize
-    ensures { result ≡ records - 1 }
-{
-    records.saturating_sub(1)
-}
+impl<'a, C: Copy> Heap<'a, C> {
+    // The place at a position.
+    pub fn slot_at(&self, position: usize) -> u32
+        requires { position < length self.now.list.now }
+        ensures { (layout self.now.list.now).slot position ≡ result }
+    {
+        self.list[position].slot
+    }
 
-// The place at a position.
-pub fn slot_at<C: Copy>(list: &[HeapRecord<C>], position: usize) -> u32
-    requires { position < length list.now }
-    ensures { (layout list.now).slot position ≡ result }
-{
-    list[position].slot
-}
+    // The position that a place names.
+    pub fn position_of(&self, place: u32) -> usize
+        requires { place + 1 < length self.now.list.now }
+        ensures { (layout self.now.list.now).at place ≡ result }
+    {
+        self.list[place as usize + 1].at as usize + 1
+    }
 
-// The position that a place names.
-pub fn position_of<C: Copy>(list: &[HeapRecord<C>], place: u32) -> usize
-    requires { place + 1 < length list.now }
-    ensures { (layout list.now).at place ≡ result }
-{
-    list[place as usize + 1].at as usize + 1
-}
+    // The cost of a place.
+    pub fn cost_of(&self, place: u32) -> C
+        requires { place + 1 < length self.now.list.now }
+        ensures { (layout self.now.list.now).cost place ≡ Some result }
+    {
+        self.list[place as usize + 1].cost
+    }
 
-// The cost of a place.
-pub fn cost_of<C: Copy>(list: &[HeapRecord<C>], place: u32) -> C
-    requires { place + 1 < length list.now }
-    ensures { (layout list.now).cost place ≡ Some result }
-{
-    list[place as usize + 1].cost
+    // The place at a position, and its cost.
+    pub fn at(&self, position: usize) -> Taken<C>
+        requires position { position < length self.now.list.now }
+        requires place { (layout self.now.list.now).slot position + 1 < length self.now.list.now }
+        ensures place { (layout self.now.list.now).slot position ≡ result.place }
+        ensures cost { key (layout self.now.list.now) position ≡ Some result.cost }
+    {
+        let place = self.slot_at(position);
+        Taken {
+            place,
+            cost: self.cost_of(place),
+        }
+    }
 }
 
 // Gives a place a cost.

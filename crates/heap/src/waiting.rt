@@ -1,113 +1,82 @@
 // Places are inserted, wait at a smaller cost, and are removed.
-ghost use Rattle.std.specs.Prelude.{◌≡◌, ◌+◌, ◌-◌, ◌<◌, ◌≤◌, true, false, length, Some};
-ghost use Rattle.front.specs.Queue.{offer, smaller};
-ghost use Rattle.front.specs.Places.{room};
-ghost use Rattle.sift.specs.Layouts.{layout, waits, wait_cost, lower, Heaped, WaitsAt, WaitsAlone, WaitsNoMore, LeastWaits};
+ghost use Rattle.std.specs.Prelude.{◌≡◌, ◌+◌, ◌-◌, ◌<◌, ◌≤◌, true, false, length, Some, None};
+ghost use Rattle.front.specs.Places.{room, Waits, Offers};
+ghost use Rattle.sift.specs.Layouts.{layout, waits, lower, LeastWaits};
+ghost use Rattle.heap.specs.Queues.{view_of, InOrder};
 
-use super::records::{cost_of, position_of, set_cost, slot_at};
-use super::sifting::{key_at, sift_down, sift_up};
+use super::Heap;
+use super::records::set_cost;
 use front::Taken;
-use grid::Step;
-use sift::HeapRecord;
 use tariff::Tariff;
 
-// Whether a place waits: it names a position in use, which names the place.
-fn is_waiting<C: Copy>(list: &[HeapRecord<C>], count: usize, place: u32) -> bool
-    requires few { count ≤ room (length list.now) }
-    requires inside { place < room (length list.now) }
-    ensures { result ≡ waits (layout list.now) count place }
-{
-    let position = position_of(list, place);
-    position <= count && slot_at(list, position) == place
-}
-
-// Inserts a place that does not wait, and answers how many wait then.
-fn insert<T: Tariff>(
-    list: &mut [HeapRecord<T::Cost>],
-    count: usize,
-    place: u32,
-    cost: T::Cost,
-) -> usize
-    requires heaped { Heaped T.Tariff.rates (layout list.old) (room (length list.old)) count }
-    requires inside { place < room (length list.old) }
-    requires absent { waits (layout list.old) count place ≡ false }
-    ensures counts { result ≡ count + 1 }
-    ensures waits { WaitsAt T.Tariff.rates (layout list.old) (layout list.new) (room (length list.old)) count result place cost }
-{
-    let last = count + 1;
-    set_cost(list, place, cost);
-    sift_up::<T>(list, last, last, place, cost);
-    last
-}
-
-// Inserts a place as the only one that waits, whatever the list holds.
-pub fn insert_alone<T: Tariff>(list: &mut [HeapRecord<T::Cost>], place: u32, cost: T::Cost)
-    requires { place < room (length list.old) }
-    ensures { WaitsAlone T.Tariff.rates (layout list.new) (room (length list.new)) 1 place cost }
-{
-    insert::<T>(list, 0, place, cost);
-}
-
-// Gives a place that waits a smaller cost.
-fn decrease<T: Tariff>(list: &mut [HeapRecord<T::Cost>], count: usize, place: u32, cost: T::Cost)
-    requires heaped { Heaped T.Tariff.rates (layout list.old) (room (length list.old)) count }
-    requires inside { place < room (length list.old) }
-    requires present { waits (layout list.old) count place ≡ true }
-    requires less { lower T.Tariff.rates (Some cost) ((layout list.old).cost place) ≡ true }
-    ensures { WaitsAt T.Tariff.rates (layout list.old) (layout list.new) (room (length list.old)) count count place cost }
-{
-    let position = position_of(list, place);
-    set_cost(list, place, cost);
-    sift_up::<T>(list, count, position, place, cost);
-}
-
-// What a step makes of the cost taken last; none where there is no such cost, or the tariff lacks or refuses the step.
-pub fn cost_offered<T: Tariff>(last: Option<T::Cost>, step: Step) -> Option<T::Cost>
-    ensures { result ≡ offer T.Tariff.rates last step }
-{
-    let Some(cost) = last else {
-        return None;
-    };
-    if T::has(step) {
-        T::after(cost, step)
-    } else {
-        None
+impl<'a, C: Copy> Heap<'a, C> {
+    // Whether a place waits: it names a position in use, which names the place.
+    fn is_waiting(&self, place: u32) -> bool
+        requires few { self.now.count ≤ room (length self.now.list.now) }
+        requires inside { place < room (length self.now.list.now) }
+        ensures { result ≡ waits (layout self.now.list.now) self.now.count place }
+    {
+        let position = self.position_of(place);
+        position <= self.count && self.slot_at(position) == place
     }
-}
 
-// Inserts a place, or gives it a smaller cost, or leaves it at the cost at which it waits; answers how many wait then.
-pub fn insert_or_decrease<T: Tariff>(
-    list: &mut [HeapRecord<T::Cost>],
-    count: usize,
-    place: u32,
-    cost: T::Cost,
-) -> usize
-    requires heaped { Heaped T.Tariff.rates (layout list.old) (room (length list.old)) count }
-    requires inside { place < room (length list.old) }
-    ensures { WaitsAt T.Tariff.rates (layout list.old) (layout list.new) (room (length list.old)) count result place (smaller T.Tariff.rates (wait_cost (layout list.old) count place) cost) }
-{
-    if !is_waiting(list, count, place) {
-        return insert::<T>(list, count, place, cost);
+    // Inserts a place that does not wait.
+    pub fn insert<T: Tariff<Cost = C>>(&mut self, place: u32, cost: C)
+        requires order { InOrder T.Tariff.rates self.old }
+        requires inside { place < room (length self.old.list.now) }
+        requires absent { waits (layout self.old.list.now) self.old.count place ≡ false }
+        ensures order { InOrder T.Tariff.rates self.new }
+        ensures change { Waits (view_of self.old) (view_of self.new) place (Some cost) }
+    {
+        let last = self.count + 1;
+        set_cost(self.list, place, cost);
+        self.count = last;
+        self.sift_up::<T>(last, place, cost);
     }
-    if T::less(cost, cost_of(list, place)) {
-        decrease::<T>(list, count, place, cost);
-    }
-    count
-}
 
-// Removes the place at the first position.
-pub fn remove_first<T: Tariff>(list: &mut [HeapRecord<T::Cost>], count: usize) -> Taken<T::Cost>
-    requires heaped { Heaped T.Tariff.rates (layout list.old) (room (length list.old)) count }
-    requires some { 1 ≤ count }
-    ensures first { LeastWaits T.Tariff.rates (layout list.old) (room (length list.old)) count result.place result.cost }
-    ensures removed { WaitsNoMore T.Tariff.rates (layout list.old) (layout list.new) (room (length list.old)) count (count - 1) result.place }
-{
-    let place = slot_at(list, 1);
-    let cost = key_at(list, 1);
-    if count > 1 {
-        let moved = slot_at(list, count);
-        let moved_cost = key_at(list, count);
-        sift_down::<T>(list, count - 1, 1, moved, moved_cost);
+    // Gives a place that waits a smaller cost.
+    fn decrease<T: Tariff<Cost = C>>(&mut self, place: u32, cost: C)
+        requires order { InOrder T.Tariff.rates self.old }
+        requires inside { place < room (length self.old.list.now) }
+        requires present { waits (layout self.old.list.now) self.old.count place ≡ true }
+        requires less { lower T.Tariff.rates (Some cost) ((layout self.old.list.now).cost place) ≡ true }
+        ensures order { InOrder T.Tariff.rates self.new }
+        ensures change { Waits (view_of self.old) (view_of self.new) place (Some cost) }
+    {
+        let position = self.position_of(place);
+        set_cost(self.list, place, cost);
+        self.sift_up::<T>(position, place, cost);
     }
-    Taken { place, cost }
+
+    // Lets a place wait at a cost, unless it waits at one that is not greater.
+    pub fn offer<T: Tariff<Cost = C>>(&mut self, place: u32, cost: C)
+        requires order { InOrder T.Tariff.rates self.old }
+        requires inside { place < room (length self.old.list.now) }
+        ensures order { InOrder T.Tariff.rates self.new }
+        ensures change { Offers T.Tariff.rates (view_of self.old) (view_of self.new) place cost }
+    {
+        if !self.is_waiting(place) {
+            self.insert::<T>(place, cost);
+        } else if T::less(cost, self.cost_of(place)) {
+            self.decrease::<T>(place, cost);
+        }
+    }
+
+    // Removes the place at the first position.
+    pub fn remove_first<T: Tariff<Cost = C>>(&mut self) -> Taken<C>
+        requires order { InOrder T.Tariff.rates self.old }
+        requires some { 1 ≤ self.old.count }
+        ensures order { InOrder T.Tariff.rates self.new }
+        ensures first { LeastWaits T.Tariff.rates (layout self.old.list.now) (room (length self.old.list.now)) self.old.count result.place result.cost }
+        ensures change { Waits (view_of self.old) (view_of self.new) result.place None }
+    {
+        let count = self.count;
+        let first = self.at(1);
+        let last = self.at(count);
+        self.count = count - 1;
+        if count > 1 {
+            self.sift_down::<T>(last.place, last.cost);
+        }
+        first
+    }
 }

@@ -1,5 +1,5 @@
 -- The row that a ring takes from, and the order of a ring.
-use Rattle.std.specs.Prelude.{◌≡◌, ℕ, ◌+◌, ◌%◌, ◌<◌, Bool, true, replicate, Some, None, Option}
+use Rattle.std.specs.Prelude.{◌≡◌, ℕ, ◌+◌, ◌%◌, ◌<◌, ◌≤◌, replicate, Some, None, Option}
 use Rattle.tariff.specs.Rates.{Rates}
 use Rattle.front.specs.Queue.{Queue}
 use Rattle.rows.specs.Waiting.{ringed}
@@ -11,6 +11,18 @@ use Rattle.ring.specs.declared.Ring.{Ring}
 abbrev pub Found : (ℕ → Option ℕ) → ℕ → ℕ → Option Bucket → Type 0
 Found heads rows from None = (j : ℕ) → j < rows → heads ((from + j) % rows) ≡ None
 Found heads rows from (Some b) = First heads rows from b.row b.head
+
+-- the first row that is not empty, of those from one up to another
+pub record FirstIn (heads : ℕ → Option ℕ) (from to row head : ℕ) : Type 0 where
+  pub least : from ≤ row
+  pub most : row < to
+  pub passed : (k : ℕ) → from ≤ k → k < row → heads k ≡ None
+  pub head_is : heads row ≡ Some head
+
+-- if there is one
+abbrev pub FoundIn : (ℕ → Option ℕ) → ℕ → ℕ → Option Bucket → Type 0
+FoundIn heads from to None = (k : ℕ) → from ≤ k → k < to → heads k ≡ None
+FoundIn heads from to (Some b) = FirstIn heads from to b.row b.head
 
 -- what a ring means
 abbrev pub view_of : {C : Type 0} → Ring C → Queue C

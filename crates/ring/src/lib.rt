@@ -9,7 +9,7 @@ mod filing;
 mod records;
 mod turning;
 
-use front::{Front, Taken};
+use front::{Front, Taken, cost_offered};
 use grid::Step;
 pub use rows::RingRecord;
 use tariff::Tariff;
@@ -83,7 +83,7 @@ impl<'a, T: Tariff> Front<T> for Ring<'a, T::Cost> {
         if place as usize >= self.capacity() {
             return false;
         }
-        let Some(cost) = self.last.and_then(|last| T::after(last, step)) else {
+        let Some(cost) = cost_offered::<T>(self.last, step) else {
             return false;
         };
         self.offer::<T>(place, cost);

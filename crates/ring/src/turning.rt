@@ -1,8 +1,8 @@
 // The row that comes first.
-ghost use Rattle.std.specs.Prelude.{◌≡◌, ◌+◌, ◌%◌, ◌<◌, ◌≤◌, ◌++◌, None, slice_index_or, length, position, is_some, take, drop};
+ghost use Rattle.std.specs.Prelude.{◌≡◌, ◌+◌, ◌%◌, ◌<◌, ◌≤◌, None, slice_index_or};
 ghost use Rattle.rows.specs.Waiting.{some_rows};
 ghost use Rattle.rows.specs.Rows.{base};
-ghost use Rattle.ring.specs.Rings.{Found, InOrder};
+ghost use Rattle.ring.specs.Rings.{FoundIn, Found, InOrder};
 
 use super::Ring;
 use tariff::Tariff;
@@ -28,15 +28,17 @@ pub struct Bucket {
     pub head: u32,
 }
 
-// How many rows there are before the first that is not empty, from one on round the ring.
-fn rows_ahead(heads: &[Option<u32>], from: usize) -> Option<usize>
-    requires { from ≤ length heads.now }
-    ensures { result ≡ position is_some (drop from heads.now ++ take from heads.now) }
+// The first of some rows that is not empty: those with a number from one up to another.
+fn first_in(heads: &[Option<u32>; 32], from: usize, to: usize) -> Option<Bucket>
+    requires { to ≤ 32 }
+    ensures { FoundIn (λ k. slice_index_or heads.now k None) from to result }
 {
-    heads[from..]
-        .iter()
-        .chain(heads[..from].iter())
-        .position(|head| head.is_some())
+    for row in from..to {
+        if let Some(head) = heads[row] {
+            return Some(Bucket { row, head });
+        }
+    }
+    None
 }
 
 impl<'a, C: Copy> Ring<'a, C> {
@@ -55,9 +57,7 @@ impl<'a, C: Copy> Ring<'a, C> {
     {
         let rows = self.rows as usize;
         let from = self.row_of::<T>(self.last.unwrap_or(T::nothing()));
-        let ahead = rows_ahead(&self.heads[..rows], from)?;
-        let row = (from + ahead) % rows;
-        let head = self.heads[row].unwrap();
-        Some(Bucket { row, head })
+        let heads = &self.heads;
+        first_in(heads, from, rows).or_else(|| first_in(heads, 0, from))
     }
 }

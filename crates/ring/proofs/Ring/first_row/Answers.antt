@@ -1,38 +1,27 @@
-use Rattle.std.proofs.Common.{◌≡◌, ◌+◌, ◌%◌, length, get_or, None, sym, subst, arith, rules}
-use Rattle.rows.specs.Rows.{base, First}
-use Rattle.ring.specs.Rings.{Found}
-use Rattle.ring.proofs.Rounds.{found_none, found_head, found}
+use Rattle.std.proofs.Common.{◌≡◌, ℕ, ◌%◌, ◌<◌, get_or, None, Option, subst, ⊎_elim, arith, rules}
+use Rattle.front.proofs.Changes.{cases_option}
+use Rattle.rows.specs.Rows.{base}
+use Rattle.ring.specs.Rings.{FoundIn, Found}
+use Rattle.ring.proofs.Rounds.{found_ahead, found_rest}
 use Rattle.ring.proofs.Ring.first_row.Goals as goal
-
-pub returns-in_err-ahead : goal.returns-in_err-ahead
-returns-in_err-ahead g c =
-    let s = c.args.self.now in
-    let from = c.row_of-from.result in
-    let e : from ≡ base g.T.Tariff.rates s.last % s.rows = search rules in
-    let len : length s.heads ≡ 32 = search rules in
-    let some = c.requires.some in
-    let most = c.requires.most in
-    rw c.from_residual.ensures
-    (subst (λ k. Found (λ j. get_or s.heads j None) s.rows k None) e
-    (found_none s.heads s.rows from (omega arith) (omega arith) (sym c.in_err-ahead.ensures)))
-
-pub unwrap-head-requires : goal.unwrap-head-requires
-unwrap-head-requires g c =
-    let s = c.args.self.now in
-    let e = c.row_of-from.ensures in
-    let len : length s.heads ≡ 32 = search rules in
-    let some = c.requires.some in
-    let most = c.requires.most in
-    found_head s.heads s.rows c.row_of-from.result (omega arith) (omega arith) c.in_ok-ahead.ahead (sym c.in_ok-ahead.ensures)
 
 pub returns : goal.returns
 returns g c =
     let s = c.args.self.now in
     let from = c.row_of-from.result in
-    let k = c.in_ok-ahead.ahead in
+    let heads : ℕ → Option ℕ = λ k. get_or s.heads k None in
     let e : from ≡ base g.T.Tariff.rates s.last % s.rows = search rules in
-    let len : length s.heads ≡ 32 = search rules in
     let some = c.requires.some in
-    let most = c.requires.most in
-    subst (λ z. First (λ j. get_or s.heads j None) s.rows z ((from + k) % s.rows) c.unwrap-head.result) e
-    (found s.heads s.rows from (omega arith) (omega arith) k c.unwrap-head.result (sym c.in_ok-ahead.ensures) c.unwrap-head.ensures)
+    let inside : from < s.rows = omega arith in
+    let r = c.or_else.result in
+    subst (λ k. Found heads s.rows k r) e
+    (⊎_elim
+    (λ n.
+    let none : FoundIn heads from s.rows None = rw n at c.first_in.ensures in
+    let h = rw n at c.or_else.ensures in
+    let rest : FoundIn heads 0 from r = search rules in
+    found_rest heads s.rows from inside none r rest)
+    (λ b.
+    let same = rw b.1 at c.or_else.ensures in
+    rw same (found_ahead heads s.rows from inside b.0 (rw b.1 at c.first_in.ensures)))
+    (cases_option c.first_in.result))

@@ -1,0 +1,29 @@
+use Rattle.std.proofs.Common.{◌≡◌, ◌-◌, length, sym, subst, ◌∙◌}
+use Rattle.front.specs.Places.{room}
+use Rattle.sift.specs.Layouts.{layout, filled, Sifted, LeastWaits}
+use Rattle.sift.proofs.Removing.{first_waits, moved_hole, removed}
+use Rattle.heap.proofs.Changing.{gone_after}
+use Rattle.heap.proofs.Heap.remove_first.Goals as goal
+
+pub returns-then-count-gt1-clause-first : goal.returns-then-count-gt1-clause-first
+returns-then-count-gt1-clause-first g c =
+    let s = c.args.self.now in
+    let xs = s.list.now in
+    rw (← c.at-first.ensures.place) (first_waits g.met.T.Tariff.laws (layout xs) (room (length xs)) s.count c.requires.order c.requires.some c.at-first.result.cost c.at-first.ensures.cost)
+
+pub returns-else-count-gt1-clause-first : goal.returns-else-count-gt1-clause-first
+returns-else-count-gt1-clause-first g c =
+    let s = c.args.self.now in
+    let xs = s.list.now in
+    rw (← c.at-first.ensures.place) (first_waits g.met.T.Tariff.laws (layout xs) (room (length xs)) s.count c.requires.order c.requires.some c.at-first.result.cost c.at-first.ensures.cost)
+
+pub returns-then-count-gt1-clause-change : goal.returns-then-count-gt1-clause-change
+returns-then-count-gt1-clause-change g c =
+    let s = c.args.self.now in
+    let xs = s.list.now in
+    let s' = c.sift_down.new.self in
+    let e = c.sift_down.ensures in
+    rw (← c.at-first.ensures.place)
+    (gone_after s s' ((layout xs).slot 1) (s.count - 1) e.count e.last e.records
+    (removed (layout xs) (room (length xs)) s.count c.requires.order c.if-count-gt1.true (layout s'.list.now)
+    (subst (λ q. Sifted g.T.Tariff.rates (filled (layout xs) 1 q) (layout s'.list.now) (room (length xs)) (s.count - 1)) (sym c.at-last.ensures.place) e.sifted)))
