@@ -48,5 +48,5 @@ module _ {A B : Type 0} (h : A → Option B) where
         let (hit, miss) = give (λ (x, u) o f' c. (acts x o f' c).0) in
         let (d, at) = stands (p.at i) (Some y) hit in
         sym (some_given (rest p.from) i d y (let l = to.0 in omega arith)
-            (λ k l. at_some (p.at k) (get_or (rest p.from) k d) None (to.2 k d (omega arith)) (stands (p.at k) None (miss k l)).1)
-            (at_some (p.at i) (get_or (rest p.from) i d) (Some y) (to.2 i d lt) at)) ∙ ap (λ z. first_some (rest z)) from
+        (λ k l. at_some (p.at k) (get_or (rest p.from) k d) None (to.2 k d (omega arith)) (stands (p.at k) None (miss k l)).1)
+        (at_some (p.at i) (get_or (rest p.from) i d) (Some y) (to.2 i d lt) at)) ∙ ap (λ z. first_some (rest z)) from

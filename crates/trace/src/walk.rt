@@ -33,36 +33,26 @@ fn comes_to<T: Tariff>(label: Option<T::Cost>, by: Step, cost: T::Cost) -> bool
         .is_some_and(|made| !T::less(made, cost) && !T::less(cost, made))
 }
 
-// The neighbour in a direction, if it accounts for a cost.
-fn accounting<T: Tariff>(
-    site: Site,
-    direction: Direction,
-    labels: &[Option<T::Cost>],
-    cost: T::Cost,
-) -> Option<u32>
-    ensures { result ≡ accounting_for T.rates (label_of labels.now) cost site.shape site.place direction }
-{
-    site.neighbour(direction).filter(|place| comes_to::<T>(
-        label_at(labels, *place),
-        direction.step(),
-        cost,
-    ))
-}
-
-// The first neighbour of a place, in the trace-back order, that accounts for a cost.
-fn first_around<T: Tariff>(
-    shape: Shape,
-    place: u32,
-    labels: &[Option<T::Cost>],
-    cost: T::Cost,
-) -> Option<u32>
-    ensures { result ≡ place_of (first T.rates (label_of labels.now) cost (around shape place)) }
-{
-    let site = shape.site(place)?;
-    directions().iter().find_map(|direction| accounting::<T>(site, *direction, labels, cost))
-}
-
 impl<'a, T: Tariff> Trace<'a, T> {
+    // The neighbour in a direction, if it accounts for a cost.
+    fn accounting(&self, site: Site, direction: Direction, cost: T::Cost) -> Option<u32>
+        ensures { result ≡ accounting_for T.rates (label_of self.now.labels.now) cost site.shape site.place direction }
+    {
+        site.neighbour(direction).filter(|place| {
+            comes_to::<T>(label_at(self.labels, *place), direction.step(), cost)
+        })
+    }
+
+    // The first neighbour of a place, in the trace-back order, that accounts for a cost.
+    fn first_around(&self, place: u32, cost: T::Cost) -> Option<u32>
+        ensures { result ≡ place_of (first T.rates (label_of self.now.labels.now) cost (around self.now.shape place)) }
+    {
+        let site = self.shape.site(place)?;
+        directions()
+            .iter()
+            .find_map(|direction| self.accounting(site, *direction, cost))
+    }
+
     // The place before a place: none before the start, nor where no neighbour accounts for the place's cost.
     fn before(&self, place: u32) -> Option<u32>
         ensures { result ≡ place_of (back T.rates (ways self.now.shape self.now.start) (label_of self.now.labels.now) place) }
@@ -71,7 +61,7 @@ impl<'a, T: Tariff> Trace<'a, T> {
             return None;
         }
         let cost = label_at(self.labels, place)?;
-        first_around::<T>(self.shape, place, self.labels, cost)
+        self.first_around(place, cost)
     }
 }
 

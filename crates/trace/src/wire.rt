@@ -1,5 +1,5 @@
 // The wire to a goal, traced back over labels: its places counted and written.
-ghost use Rattle.std.specs.Prelude.{◌≡◌, ◌-◌, ◌<◌, ◌≤◌, reverse, count_by, length, Ok, ◌==◌, slice_set};
+ghost use Rattle.std.specs.Prelude.{◌≡◌, ◌≤◌, reverse, count_by, length, Ok, ◌==◌};
 ghost use Rattle.model.specs.Paths.{bare_entries};
 ghost use Rattle.wave.specs.Questions.{search_answered, unless, refused_by};
 ghost use Rattle.trace.specs.Trace.{traced, trace_answer, room_asks, write_answer, path_after, AfterSearch};
