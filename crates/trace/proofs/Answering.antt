@@ -1,6 +1,5 @@
 -- What the questions of a trace tell, and the wire after a search.
-use Rattle.std.proofs.Common.{◌≡◌, ℕ, ◌-◌, Bool, true, false, cond, leb, List, ◌++◌, reverse, length, take, drop, IsErrAnd, Some, None, Ok, Err, Option, Result, sym, refl, ap, ◌∙◌, subst, arith}
-use borrow.Rule.Slice.PartMut.{post_of, Post-is}
+use Rattle.std.proofs.Common.{◌≡◌, ℕ, Bool, true, false, cond, leb, List, ◌++◌, reverse, length, take, drop, IsErrAnd, Some, None, Ok, Err, Option, Result, sym, refl, ap, ◌∙◌, subst}
 use Rattle.std.proofs.lemmas.List.{length-reverse, length-take-le}
 use Rattle.std.proofs.lemmas.Result.{err_from_is_err_and}
 use Rattle.std.proofs.lemmas.Bool.{leb-true, cond-true}
@@ -52,25 +51,24 @@ module _ {T C : Type 0} (t : Rates C) (g : Ground) (n start goal : ℕ) (ls : Li
   places_are : places ≡ length ps
   places_are = ok_is (counted ∙ sym (unless_none (refused_by (trace_asks g (length ls))) (Ok (length ps)) begun.0))
 
-  has_room : refused_by (room_asks places (length path)) ≡ None
-  has_room = granted (refused_by (room_asks places (length path))) room
+  roomy : refused_by (room_asks places (length path)) ≡ None
+  roomy = granted (refused_by (room_asks places (length path))) room
 
-  pub part_size : length (take (places - 0) path) ≡ length (places_left t x)
+  pub part_size : length (take places path) ≡ length (places_left t x)
   part_size =
-      let k : places - 0 ≡ places = omega arith in
-      let l = leb-true places (length path) (passed (leb places (length path)) (refusal 11 places) has_room) in
-      length-take-le (places - 0) path (omega arith) ∙ k ∙ places_are ∙ ap length (begun.1 n).is ∙ length-reverse (places_left t x)
+      let l = leb-true places (length path) (passed (leb places (length path)) (refusal 11 places) roomy) in
+      length-take-le places path l ∙ places_are ∙ ap length (begun.1 n).is ∙ length-reverse (places_left t x)
 
   asked : refused_by (write_asks g (length ls) ps (length path)) ≡ None
   asked =
       cond-true (leb (count_of g.shape) (length ls)) (refused_by (room_asks (length ps) (length path))) (Some (refusal 2 (count_of g.shape)))
       (passed (leb (count_of g.shape) (length ls)) (refusal 2 (count_of g.shape)) begun.0)
-      ∙ ap (λ k. refused_by (room_asks k (length path))) (sym places_are) ∙ has_room
+      ∙ ap (λ k. refused_by (room_asks k (length path))) (sym places_are) ∙ roomy
 
   pub wrote_answer : Ok places ≡ write_answer g (length ls) ps (length path)
   wrote_answer = ap Ok places_are ∙ unless_none (refused_by (write_asks g (length ls) ps (length path))) (Ok (length ps)) asked
 
-  pub wrote_path : (part : List ℕ) → part ≡ reverse (places_left t x) → part ++ post_of 0 (places - 0) path ≡ path_after g (length ls) ps path
+  pub wrote_path : (part : List ℕ) → part ≡ reverse (places_left t x) → part ++ drop places path ≡ path_after g (length ls) ps path
   wrote_path part e =
-      ap (λ l. l ++ post_of 0 (places - 0) path) (e ∙ sym (begun.1 n).is) ∙ ap (λ l. ps ++ l) (Post-is 0 places path (omega arith) ∙ ap (λ k. drop k path) places_are)
+      ap (λ l. l ++ drop places path) (e ∙ sym (begun.1 n).is) ∙ ap (λ k. ps ++ drop k path) places_are
       ∙ sym (ap (λ o. written o ps path) asked)

@@ -1,5 +1,6 @@
 -- One step of the trace.
 use Rattle.std.proofs.Common.{◌≡◌, ℕ, zero, suc, ◌-◌, ◌<◌, ◌≤◌, Bool, true, false, cond, ltb, List, [], ◌∷◌, length, Some, None, Option, sym, refl, ap, ◌∙◌, arith}
+use Rattle.std.specs.Option.{option_or}
 use Rattle.std.proofs.lemmas.Bool.{le-ltb, cond-false}
 use Rattle.grid.specs.declared.shape.Shape.{Shape}
 use Rattle.grid.specs.declared.step.Direction.{Direction}
@@ -10,27 +11,28 @@ use Rattle.route.specs.Hops.{Hop, hop, put_in, gather}
 use Rattle.route.specs.Paths.{label_of}
 use Rattle.route.specs.Search.{Maze, onward}
 use Rattle.route.specs.Wire.{is_cost, first, back, on_back, trace_back}
-use Rattle.trace.specs.Walk.{place_of, if_accounts, or_else, first_for, ways, to_come}
+use Rattle.trace.proofs.Finding.{first_some}
+use Rattle.trace.specs.Walk.{place_of, if_accounts, accounting_for, ways, to_come}
 
 -- the first hop that accounts for a cost, direction by direction
-first_is : {C : Type 0} (t : Rates C) (f : ℕ → Option C) (c : C) (s : Shape) (p : ℕ) (ds : List Direction) → first_for t f c s p ds ≡ place_of (first t f c (gather s p ds))
+first_is : {C : Type 0} (t : Rates C) (f : ℕ → Option C) (c : C) (s : Shape) (p : ℕ) (ds : List Direction) → first_some (accounting_for t f c s p) ds ≡ place_of (first t f c (gather s p ds))
 unfolding gather
 first_is t f c s p [] = refl
 first_is {C} t f c s p (d ∷ ds) = go (first_is t f c s p ds) (neighbour_of s p d)
   where
-    tested : (q : ℕ) (b : Bool) → first_for t f c s p ds ≡ place_of (first t f c (gather s p ds)) →
-        or_else (cond b (Some q) None) (first_for t f c s p ds) ≡ place_of (cond b (Some (hop (kind d) q)) (first t f c (gather s p ds)))
+    tested : (q : ℕ) (b : Bool) → first_some (accounting_for t f c s p) ds ≡ place_of (first t f c (gather s p ds)) →
+        option_or (cond b (Some q) None) (first_some (accounting_for t f c s p) ds) ≡ place_of (cond b (Some (hop (kind d) q)) (first t f c (gather s p ds)))
     tested q true ih = refl
     tested q false ih = ih
 
-    go : first_for t f c s p ds ≡ place_of (first t f c (gather s p ds)) → (o : Option ℕ) →
-        or_else (if_accounts t f c (kind d) o) (first_for t f c s p ds) ≡ place_of (first t f c (put_in (kind d) o (gather s p ds)))
+    go : first_some (accounting_for t f c s p) ds ≡ place_of (first t f c (gather s p ds)) → (o : Option ℕ) →
+        option_or (if_accounts t f c (kind d) o) (first_some (accounting_for t f c s p) ds) ≡ place_of (first t f c (put_in (kind d) o (gather s p ds)))
     go ih None = ih
     go ih (Some q) = tested q (is_cost t (onward t (f q) (kind d)) c) ih
 
-pub first_along : {C : Type 0} (t : Rates C) (f : ℕ → Option C) (c : C) {s s' : Shape} {p p' : ℕ} {ds ds' : List Direction} {r : Option ℕ} → s ≡ s' → p ≡ p' → ds ≡ ds' →
-    r ≡ first_for t f c s p ds → r ≡ place_of (first t f c (gather s' p' ds'))
-first_along t f c {s} {s'} {p} {p'} {ds} {ds'} es ep ed e = e ∙ (λ i. first_for t f c (es i) (ep i) (ed i)) ∙ first_is t f c s' p' ds'
+pub first_along : {C : Type 0} (t : Rates C) (f : ℕ → Option C) (c : C) {s s' : Shape} {p p' : ℕ} {ds ds' : List Direction} → s ≡ s' → p ≡ p' → ds ≡ ds' →
+    first_some (accounting_for t f c s p) ds ≡ place_of (first t f c (gather s' p' ds'))
+first_along t f c {s} {s'} {p} {p'} {ds} {ds'} es ep ed = (λ i. first_some (accounting_for t f c (es i) (ep i)) (ed i)) ∙ first_is t f c s' p' ds'
 
 -- a place outside the shape has no neighbours
 pub gather_outside : (s : Shape) (p : ℕ) → count_of s ≤ p → (ds : List Direction) → gather s p ds ≡ []

@@ -1,11 +1,10 @@
 -- The whole trace.
-use Rattle.std.proofs.Common.{◌≡◌, ℕ, zero, suc, ◌≤◌, leb, List, ◌∷◌, reverse, length, take, Some, None, Option, sym, refl, ap, ◌∙◌, arith}
-use Rattle.std.proofs.lemmas.Bool.{le-leb, cond-true}
+use Rattle.std.proofs.Common.{◌≡◌, ℕ, zero, suc, ◌≤◌, Bool, true, false, leb, List, [], ◌∷◌, reverse, length, take, Some, None, Ok, Option, Result, sym, subst, refl, ap, ◌∙◌, arith}
 use Rattle.grid.specs.declared.shape.Shape.{Shape}
-use Rattle.grid.specs.Faults.{refusal}
+use Rattle.grid.specs.Faults.{Refusal, refusal}
 use Rattle.grid.specs.Places.{count_of}
 use Rattle.tariff.specs.Rates.{Rates}
-use Rattle.model.specs.Sheets.{Ground}
+use Rattle.model.specs.Sheets.{Ground, ask}
 use Rattle.route.specs.Hops.{Hop}
 use Rattle.route.specs.Paths.{maze, label_of}
 use Rattle.route.specs.Search.{Maze}
@@ -36,8 +35,13 @@ trace_short t m f (suc n) p = go (λ q. trace_short t m f n q) (back t m f p)
     go ih (Some h) = omega (arith, ih h.to)
 
 -- there is a label for each place
-pub enough : (g : Ground) (entries : ℕ) → count_of g.shape ≤ entries → refused_by (trace_asks g entries) ≡ None
-enough g entries l = cond-true (leb (count_of g.shape) entries) None (Some (refusal 2 (count_of g.shape))) (le-leb (count_of g.shape) entries l)
+passed : (b : Bool) (f : Refusal) → ◌≡◌ {A = Result (Unit {0}) Refusal} (Ok tt) (ask b f (Ok tt)) → refused_by (record { holds = b; refuses = f } ∷ []) ≡ None
+passed true f e = refl
+passed false f e = let z : ◌≡◌ {A = ℕ} 0 1 = cc in absurd (omega arith)
+
+pub enough : (g : Ground) (s : Shape) (entries : ℕ) → s ≡ g.shape → ◌≡◌ {A = Result (Unit {0}) Refusal} (Ok tt) (ask (leb (count_of s) entries) (refusal 2 (count_of s)) (Ok tt)) →
+    refused_by (trace_asks g entries) ≡ None
+enough g s entries e h = subst (λ z. refused_by (trace_asks (record g { shape = z }) entries) ≡ None) e (passed (leb (count_of s) entries) (refusal 2 (count_of s)) h)
 
 -- the trace as the code begins it
 pub traced_is : {C : Type 0} (t : Rates C) (g : Ground) (n start goal : ℕ) (ls : List (Option C)) (s : Shape) (k : ℕ) → s ≡ g.shape → k ≡ count_of g.shape →

@@ -1,33 +1,24 @@
 -- What a pass over a trace comes to.
-use Rattle.std.proofs.Common.{◌≡◌, ℕ, suc, ◌+◌, ◌-◌, List, [], ◌∷◌, reverse, length, drop, set, sym, ap, ◌∙◌, arith}
+use Rattle.std.proofs.Common.{◌≡◌, ℕ, suc, ◌+◌, ◌-◌, ◌==◌, List, [], ◌∷◌, reverse, length, drop, count_by, set, sym, refl, ap, ◌∙◌, arith}
 use mathlib.Core.List.{reverse_aux}
-use lib.ListN.{length-map}
 use lib.Seq.{drop-length}
-use Rattle.std.specs.Iterator.{Drains}
-use Rattle.std.proofs.lemmas.Iterator.{items_from_drains}
 use Rattle.std.proofs.lemmas.List.{drop-set}
-use Rattle.std.proofs.lemmas.Iterator.Consumers.{YieldsList-from_shown}
-use Rattle.tariff.specs.Rates.{Rates}
+use Rattle.std.proofs.lemmas.List.Sums.{sum_by-cons}
+use Rattle.model.specs.Paths.{bare_entries}
 use Rattle.model.specs.Sheets.{Sheet, bare_at}
-use Rattle.trace.specs.declared.walk.Trace.{Trace}
-use Rattle.trace.specs.Trace.{bare_on}
-use Rattle.trace.specs.Walk.{places_left, Gives}
-
--- calls until none comes give each place that was left
-pub counted : {T C : Type 0} (t : Rates C) (x : Trace T C) (ps : List ℕ) → Drains (λ s r u. Gives (places_left t s) r (places_left t u)) x ps → length ps ≡ length (places_left t x)
-counted {T} {C} t x ps d =
-    let road = YieldsList-from_shown {S = Trace T C} {A = ℕ} {B = ℕ} (λ s r u. Gives (places_left t s) r (places_left t u)) (λ p. p) (places_left t) (λ s u e. ap length e) (λ s p u e. e) x in
-    sym (length-map ps (λ p. p)) ∙ ap length (items_from_drains ps (d.1.0, d.1.1, λ _. (d.0, d.1.2)) road)
 
 -- BARE PLACES
+pub bare_counted : (b : Sheet) (ps : List ℕ) → count_by (λ p. b.metal.copper p == 0) ps ≡ bare_entries b ps
+bare_counted b [] = refl
+bare_counted b (p ∷ ps) = sum_by-cons (bare_at b) p ps ∙ ap (λ n. bare_at b p + n) (bare_counted b ps)
 
 -- as many places are bare in a list turned round
-bare_turned : (b : Sheet) (ps qs : List ℕ) → bare_on b (reverse_aux ps qs) ≡ bare_on b ps + bare_on b qs
+bare_turned : (b : Sheet) (ps qs : List ℕ) → bare_entries b (reverse_aux ps qs) ≡ bare_entries b ps + bare_entries b qs
 bare_turned b [] qs = omega arith
-bare_turned b (p ∷ ps) qs = let e : bare_on b (reverse_aux ps (p ∷ qs)) ≡ bare_on b ps + (bare_at b p + bare_on b qs) = bare_turned b ps (p ∷ qs) in omega arith
+bare_turned b (p ∷ ps) qs = omega (arith, bare_turned b ps (p ∷ qs))
 
-pub bare_reverse : (b : Sheet) (ps : List ℕ) → bare_on b (reverse ps) ≡ bare_on b ps
-bare_reverse b ps = let e : bare_on b (reverse ps) ≡ bare_on b ps + 0 = bare_turned b ps [] in omega arith
+pub bare_reverse : (b : Sheet) (ps : List ℕ) → bare_entries b (reverse ps) ≡ bare_entries b ps
+bare_reverse b ps = omega (arith, bare_turned b ps [])
 
 -- THE WRITTEN PLACES
 

@@ -1,20 +1,15 @@
 -- The wire traced back over labels: what is asked, answered and written.
-use Rattle.std.specs.Prelude.{ℕ, ◌+◌, List, [], ◌∷◌, ◌++◌, length, take, drop, Some, None, Ok, Option, Result, nat_le}
+use Rattle.std.specs.Prelude.{ℕ, List, [], ◌∷◌, ◌++◌, length, take, drop, Some, None, Ok, Option, Result, nat_le}
 use Rattle.grid.specs.Faults.{Refusal}
 use Rattle.grid.specs.Places.{count_of}
 use Rattle.tariff.specs.Rates.{Rates}
-use Rattle.model.specs.Sheets.{Ground, Sheet, bare_at}
+use Rattle.model.specs.Sheets.{Ground}
 use Rattle.route.specs.Paths.{LeastCost, IsWire, maze, wire_over, wire}
 use Rattle.wave.specs.Questions.{Question, ask, refused_by, unless, SomeLabels}
 
 -- THE TRACED WIRE, the start first. The labels may be any; those of the board's places count.
 abbrev pub traced : {C : Type 0} → Rates C → Ground → ℕ → ℕ → ℕ → List (Option C) → List ℕ
 traced t g n start goal ls = wire_over t (maze g n start) (take (count_of g.shape) ls) goal
-
--- how many places of a list are bare
-abbrev pub bare_on : Sheet → List ℕ → ℕ
-bare_on b [] = 0
-bare_on b (p ∷ ps) = bare_at b p + bare_on b ps
 
 -- A TRACE asks 2: there is a label for each place
 abbrev pub label_ask : Ground → ℕ → Question

@@ -1,5 +1,5 @@
 -- The trace, step by step.
-use Rattle.std.specs.Prelude.{◌≡◌, ℕ, ◌≤◌, true, cond, List, [], ◌∷◌, reverse, length, Some, None, Ok, Err, Option, Result}
+use Rattle.std.specs.Prelude.{◌≡◌, ℕ, ◌≤◌, true, if◌then◌else◌, List, [], reverse, length, Some, None, Ok, Err, Option, Result}
 use Rattle.grid.specs.declared.shape.Shape.{Shape}
 use Rattle.grid.specs.declared.step.Step.{Step}
 use Rattle.grid.specs.declared.step.Direction.{Direction}
@@ -23,20 +23,11 @@ place_of (Some h) = Some h.to
 -- a place, if its label followed by the step comes to the cost c
 abbrev pub if_accounts : {C : Type 0} → Rates C → (ℕ → Option C) → C → Step → Option ℕ → Option ℕ
 if_accounts t f c k None = None
-if_accounts t f c k (Some q) = cond (is_cost t (onward t (f q) k) c) (Some q) None
+if_accounts t f c k (Some q) = if is_cost t (onward t (f q) k) c then Some q else None
 
 -- the neighbour of p in the direction d, if it accounts for c
 abbrev pub accounting_for : {C : Type 0} → Rates C → (ℕ → Option C) → C → Shape → ℕ → Direction → Option ℕ
 accounting_for t f c s p d = if_accounts t f c (kind d) (neighbour_of s p d)
-
-abbrev pub or_else : Option ℕ → Option ℕ → Option ℕ
-or_else None o = o
-or_else (Some q) o = Some q
-
--- the first neighbour of p in some directions that accounts for c
-abbrev pub first_for : {C : Type 0} → Rates C → (ℕ → Option C) → C → Shape → ℕ → List Direction → Option ℕ
-first_for t f c s p [] = None
-first_for t f c s p (d ∷ ds) = or_else (accounting_for t f c s p d) (first_for t f c s p ds)
 
 -- the maze as a trace knows it: which places are open does not matter to it
 abbrev pub ways : Shape → ℕ → Maze
@@ -48,12 +39,7 @@ to_come t s start ls None n = []
 to_come t s start ls (Some p) n = trace_back t (ways s start) (label_of ls) n p
 
 abbrev pub places_left : {T C : Type 0} → Rates C → Trace T C → List ℕ
-places_left t x = to_come t x.shape x.start x.labels.now x.next x.left
-
--- what is given of ps, and what is left
-abbrev pub Gives : List ℕ → Option ℕ → List ℕ → Type 0
-Gives ps None qs = ps ≡ []
-Gives ps (Some p) qs = ps ≡ p ∷ qs
+places_left t x = to_come t x.shape x.start x.labels.now x.place x.steps
 
 -- a trace that has a wire to give, its last place first; it is not longer than the code can count
 pub record Traces {T C : Type 0} (t : Rates C) (x : Trace T C) (ps : List ℕ) : Type 0 where

@@ -1,7 +1,6 @@
 // The wire, traced back from the goal over labels.
 #![tactic(auto)]
 
-mod back;
 mod walk;
 pub mod wire;
 

@@ -1,13 +1,12 @@
-use Rattle.std.proofs.Common.{◌≡◌, ◌-◌, ◌++◌, length, Ok}
-use borrow.Rule.Slice.PartMut.{post_of}
+use Rattle.std.proofs.Common.{◌≡◌, ◌++◌, length, drop, Ok}
 use Rattle.trace.specs.Trace.{write_answer, path_after}
 use Rattle.trace.proofs.Answering.{after_search, part_size, wrote_answer, wrote_path}
 use Rattle.trace.proofs.wire.write_wire.Goals as goal
 
 pub write_back-requires : goal.write_back-requires
 write_back-requires g c =
-    part_size g.T.Tariff.rates (g.G.Ground.meaning c.args.area.now) c.args.net c.args.start c.args.goal c.args.labels.now c.in_ok-trace.trace c.in_ok-trace.ensures
-    c.args.path.now c.in_ok-places.places c.in_ok-places.ensures.answer c.in_ok-has_room.ensures
+    part_size g.T.Tariff.rates (g.G.Ground.meaning c.args.area.now) c.args.connection.net c.args.connection.start c.args.connection.goal c.args.labels.now c.in_ok-trace.trace c.in_ok-trace.ensures
+    c.args.path.now c.in_ok-places.places c.in_ok-places.ensures.answer c.in_ok-check_room.ensures
 
 pub returns : goal.returns
 returns g c =
@@ -19,12 +18,12 @@ returns g c =
     let path = c.args.path.now in
     let n = c.in_ok-places.places in
     let counted = c.in_ok-places.ensures.answer in
-    let room = c.in_ok-has_room.ensures in
-    let a = wrote_answer t m c.args.net c.args.start c.args.goal ls x begun path n counted room in
-    let b = wrote_path t m c.args.net c.args.start c.args.goal ls x begun path n counted room c.write_back.new.path c.write_back.ensures in
+    let room = c.in_ok-check_room.ensures in
+    let a = wrote_answer t m c.args.connection.net c.args.connection.start c.args.connection.goal ls x begun path n counted room in
+    let b = wrote_path t m c.args.connection.net c.args.connection.start c.args.connection.goal ls x begun path n counted room c.write_back.new.path c.write_back.ensures in
     record {
       answer = a;
       after = b;
-      wire = after_search g.met.T.Tariff.laws m (g.G.Ground.sound c.args.area.now) c.args.net c.args.start c.args.goal ls
-          (λ ps. (Ok n ≡ write_answer m (length ls) ps (length path)) × (c.write_back.new.path ++ post_of 0 (n - 0) path ≡ path_after m (length ls) ps path)) (a, b);
+      wire = after_search g.met.T.Tariff.laws m (g.G.Ground.sound c.args.area.now) c.args.connection.net c.args.connection.start c.args.connection.goal ls
+          (λ ps. (Ok n ≡ write_answer m (length ls) ps (length path)) × (c.write_back.new.path ++ drop n path ≡ path_after m (length ls) ps path)) (a, b);
     }
