@@ -1,7 +1,8 @@
 -- The octile tariff keeps the laws.
-use Rattle.std.specs.Prelude.{if◌then◌else◌, ◌≡◌, ℕ, suc, ◌+◌, ◌*◌, ◌<◌, ◌≤◌, Bool, true, false, Some, None}
+use Rattle.std.specs.Prelude.{◌≡◌, ℕ, suc, ◌+◌, ◌*◌, ◌<◌, ◌≤◌, true, Some}
 use Rattle.std.proofs.Common.{sym, ◌∙◌, ap, ⊎_elim, arith}
 use Rattle.std.proofs.lemmas.Bool.{cases_lt, le-leb, true≢false}
+use Rattle.std.proofs.lemmas.Bool.Decides.{nat_tests}
 use Rattle.grid.specs.declared.step.Step.{Step}
 use Rattle.grid.specs.declared.step.Step.TheVariants.{Straight, Diagonal, Via}
 use Rattle.surd.specs.declared.Surd.{Surd}
@@ -11,7 +12,7 @@ use Rattle.surd.proofs.Order.{below_more, below_shift, below_whole}
 use Rattle.surd.proofs.Roots.{whole_step}
 use Rattle.tariff.specs.Rates.{Laws}
 use Rattle.tariff.proofs.Lasting.{lasting}
-use Rattle.octile.specs.Octile.{octile_fits, octile_within, octile_after, octile_rates}
+use Rattle.octile.specs.Octile.{octile_within, octile_after, octile_rates}
 
 -- what a step adds to a, and to b
 straight_part : Step → ℕ
@@ -38,10 +39,7 @@ after_is x Via = let e : x.b ≡ x.b + 0 = omega arith in ap (λ b. octile_withi
 
 -- what is not refused
 within_is : (a b : ℕ) (y : Surd) → octile_within a b ≡ Some y → y ≡ surd a b
-within_is a b y h = kept (octile_fits (surd a b)) h where
-  kept : (fits : Bool) → (if fits then Some (surd a b) else None) ≡ Some y → y ≡ surd a b
-  kept true e = cc
-  kept false e = cc
+within_is a b y h = grind (arith, nat_tests)
 
 added : (x y : Surd) (k : Step) → octile_after x k ≡ Some y → (y.a ≡ x.a + straight_part k) × (y.b ≡ x.b + diagonal_part k)
 added x y k h =

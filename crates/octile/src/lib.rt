@@ -51,6 +51,7 @@ impl Tariff for Octile {
     }
 
     fn after(cost: Surd, step: Step) -> Option<Surd> {
+        // The kinds of step differ in nothing but which part they raise, and by how much.
         let mut next = cost;
         match step {
             Step::Straight => next.a = next.a.saturating_add(1),
@@ -65,7 +66,7 @@ impl Tariff for Octile {
     }
 }
 
-// A few costs worked out.
+// A few costs worked out: the contract says them, and the number that is answered says nothing.
 pub fn worked_costs() -> u8
     ensures is { result ≡ 0 }
     ensures worked { WorkedCosts }

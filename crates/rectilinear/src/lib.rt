@@ -40,6 +40,7 @@ impl Tariff for Rectilinear {
     }
 
     fn after(cost: u32, step: Step) -> Option<u32> {
+        // The kinds of step differ in nothing but what they add.
         let rise = match step {
             Step::Straight => 1,
             Step::Diagonal => return None,

@@ -153,9 +153,9 @@ below_separated x y = (to_separated x y, from_separated x y)
 
 -- the same of what `<` answers
 pub less_to_separated : (x y : Surd) → is_lt (order x y) ≡ true → Separated x y
-less_to_separated x y e = to_separated x y (rw (order_less x y) at e)
+less_to_separated x y e = (below_separated x y).0 (rw (order_less x y) at e)
 
 pub less_from_separated : (x y : Surd) → Separated x y → is_lt (order x y) ≡ true
-less_from_separated x y s = rw (order_less x y) (from_separated x y s)
+less_from_separated x y s = rw (order_less x y) ((below_separated x y).1 s)
 
 pub ruleset less_rules = (less_to_separated, less_from_separated)

@@ -2,7 +2,7 @@
 ghost use Rattle.std.specs.Prelude.{◌≡◌, ◌<◌, length};
 ghost use Rattle.surd.specs.Surds.{WholeParts, whole_part};
 
-// The whole parts of b√2 for b from 0 to 1,023.
+// The whole parts of b√2 for b from 0 to 1,023, as docs/TARIFFS.md has them: listed, and not computed at the start.
 static WHOLE_PARTS: [u16; 1024] = [
     0, 1, 2, 4, 5, 7, 8, 9, 11, 12, 14, 15, 16, 18, 19, 21, 22, 24, 25, 26, 28, 29, 31, 32, 33, 35,
     36, 38, 39, 41, 42, 43, 45, 46, 48, 49, 50, 52, 53, 55, 56, 57, 59, 60, 62, 63, 65, 66, 67, 69,

@@ -24,7 +24,7 @@ pub trait Tariff {
     fn nothing() -> Self::Cost
         ensures { result ≡ rates.nothing };
 
-    // Whether a is below b.
+    // Whether a is below b. The tariff says it and not the type, since two tariffs may charge in the same numbers.
     fn less(a: Self::Cost, b: Self::Cost) -> bool
         ensures { result ≡ rates.less a b };
 

@@ -23,10 +23,12 @@ mod tests {
     // The largest number that a cost can hold.
     const MAX: u32 = u32::MAX;
 
+    // The number a + b√2, short for the many rows.
     fn number(a: u32, b: u32) -> Surd {
         Surd { a, b }
     }
 
+    // A cost of three counts, short for the many rows.
     fn counts(vias: u32, a: u32, b: u32) -> ViaFirstCost {
         ViaFirstCost {
             vias,

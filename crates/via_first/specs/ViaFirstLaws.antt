@@ -1,5 +1,5 @@
 -- The via-first tariff keeps the laws.
-use Rattle.std.specs.Prelude.{if◌then◌else◌, ◌≡◌, ℕ, suc, ◌<◌, ◌≤◌, Bool, true, false, ◌⊎◌, Some, None, Decides, refl}
+use Rattle.std.specs.Prelude.{◌≡◌, ℕ, suc, ◌<◌, ◌≤◌, true, false, ◌⊎◌, Some, Decides, refl}
 use Rattle.std.proofs.Common.{sym, ◌∙◌, inl, inr, ⊎_elim, arith}
 use Rattle.std.proofs.lemmas.Bool.{cases_order, cases_Bool}
 use Rattle.std.proofs.lemmas.Bool.Decides.{nat_tests, Decides-and, Decides-eqb, Decides-ltb, Decides-or, not_from_Decides}
@@ -11,7 +11,7 @@ use Rattle.surd.proofs.Order.{below_more, below_shift}
 use Rattle.tariff.specs.Rates.{Laws}
 use Rattle.tariff.proofs.Lasting.{lasting}
 use Rattle.via_first.specs.declared.ViaFirstCost.{ViaFirstCost}
-use Rattle.via_first.specs.ViaFirst.{counts_fit, via_first_below, via_first_next, via_first_rates, via_first_within}
+use Rattle.via_first.specs.ViaFirst.{via_first_below, via_first_next, via_first_rates, via_first_within}
 
 -- fewer vias, or as many and a rest that is below
 abbrev Before : ViaFirstCost → ViaFirstCost → Type 0
@@ -57,10 +57,7 @@ next_keeps x y Via (inr l) = inr (omega (arith, l.0), l.1)
 
 -- a cost that is not refused stays what it is
 some_within : (c d : ViaFirstCost) → via_first_within c ≡ Some d → d ≡ c
-some_within c d h = kept (counts_fit c) h where
-  kept : (fits : Bool) → (if fits then Some c else None) ≡ Some d → d ≡ c
-  kept true e = cc
-  kept false e = cc
+some_within c d h = grind (arith, nat_tests)
 
 -- n steps count at most n in each part
 abbrev Low : ℕ → ViaFirstCost → Type 0

@@ -72,6 +72,7 @@ impl Tariff for ViaFirst {
     }
 
     fn after(cost: ViaFirstCost, step: Step) -> Option<ViaFirstCost> {
+        // The kinds of step differ in nothing but which count they raise.
         let mut next = cost;
         match step {
             Step::Straight => next.rest.a = next.rest.a.saturating_add(1),
