@@ -1,6 +1,5 @@
 // The wire to a goal, traced back over labels: its places counted and written.
 ghost use Rattle.std.specs.Prelude.{◌≡◌, ◌-◌, ◌<◌, ◌≤◌, reverse, length, Ok, ◌==◌, slice_set};
-ghost use Rattle.model.specs.Sheets.{sheet as sheet_of};
 ghost use Rattle.wave.specs.Questions.{search_answered, unless, refused_by};
 ghost use Rattle.trace.specs.Trace.{traced, bare_on, trace_answer, room_asks, write_answer, path_after, AfterSearch};
 ghost use Rattle.trace.specs.Walk.{places_left};
@@ -36,7 +35,7 @@ pub fn wire_length<G: Ground, T: Tariff>(
 
 // Whether a place is bare. There is no copper outside the shape.
 fn is_bare<S: Sheet>(sheet: &S, place: u32) -> bool
-    ensures { result ≡ ((S.Sheet.metal sheet.now).copper place == 0) }
+    ensures { result ≡ ((S.board sheet.now).metal.copper place == 0) }
 {
     match sheet.copper(place) {
         Some(copper) => copper == 0,
@@ -47,7 +46,7 @@ fn is_bare<S: Sheet>(sheet: &S, place: u32) -> bool
 // How many places that a trace gives are bare.
 fn count_bare<S: Sheet, T: Tariff>(sheet: &S, trace: Trace<'_, T>) -> u32
     requires { length (places_left T.Tariff.rates trace) ≤ 2097153 }
-    ensures { result ≡ bare_on (sheet_of (S.Ground.meaning sheet.now) (S.Sheet.metal sheet.now)) (places_left T.Tariff.rates trace.entry) }
+    ensures { result ≡ bare_on (S.board sheet.now) (places_left T.Tariff.rates trace.entry) }
 {
     let mut bare = 0;
     for place in trace {
@@ -67,8 +66,8 @@ pub fn wire_bare<S: Sheet, T: Tariff>(
     goal: u32,
     labels: &[Option<T::Cost>],
 ) -> Result<u32, SearchFault>
-    ensures answer { search_answered result ≡ trace_answer (S.Ground.meaning sheet.now) (length labels.now) (bare_on (sheet_of (S.Ground.meaning sheet.now) (S.Sheet.metal sheet.now)) (traced T.Tariff.rates (S.Ground.meaning sheet.now) net start goal labels.now)) }
-    ensures wire { AfterSearch T.Tariff.rates (S.Ground.meaning sheet.now) net start goal labels.now (λ ps. search_answered result ≡ trace_answer (S.Ground.meaning sheet.now) (length labels.now) (bare_on (sheet_of (S.Ground.meaning sheet.now) (S.Sheet.metal sheet.now)) ps)) }
+    ensures answer { search_answered result ≡ trace_answer (S.Ground.meaning sheet.now) (length labels.now) (bare_on (S.board sheet.now) (traced T.Tariff.rates (S.Ground.meaning sheet.now) net start goal labels.now)) }
+    ensures wire { AfterSearch T.Tariff.rates (S.Ground.meaning sheet.now) net start goal labels.now (λ ps. search_answered result ≡ trace_answer (S.Ground.meaning sheet.now) (length labels.now) (bare_on (S.board sheet.now) ps)) }
 {
     let trace = begin::<S, T>(sheet, start, goal, labels)?;
     Ok(count_bare(sheet, trace))
