@@ -223,16 +223,43 @@ module _ {C : Type 0} {t : Rates C} {limit : ℕ} (L : Lawful t limit) where
         let eq : f y.to ≡ Some b = K.closed p y.to y.by b c e lb a.has made in
         cond-true (t.has y.by) (then t (f y.to) y.by) None a.has ∙ ap (λ o. then t o y.by) eq ∙ made
 
+    -- the step back from a place that is not the start
+    record Back (p : ℕ) (c : C) : Type 0 where
+      found : Found f c (m.around p)
+      goes-back : back t m f p ≡ Some found.hop
+      has : t.has found.hop.by ≡ true
+      from : C
+      was : f found.hop.to ≡ Some from
+      made : t.after from found.hop.by ≡ Some c
+
+    steps_back : (p : ℕ) (c : C) → f p ≡ Some c → (p ≡ m.start → ⊥) → Back p c
+    steps_back p c e ne =
+        let k = comes L m p c num (K.exact p c e) ne in
+        let eq = K.closed p k.from k.by k.was c e k.least k.has k.made in
+        let on : onward t (f k.from) k.by ≡ Some c = cond-true (t.has k.by) (then t (f k.from) k.by) None k.has ∙ ap (λ o. then t o k.by) eq ∙ k.made in
+        let F = first_found f c (m.around p) (record { by = k.by; to = k.from }) k.next on in
+        let (has, e3) = cond_some (t.has F.hop.by) (then t (f F.hop.to) F.hop.by) F.on in
+        let (b, eb, made) = then_some t (f F.hop.to) F.hop.by e3 in
+        record {
+          found = F;
+          goes-back = cond-false (eqb p m.start) None (accounts t f (f p) (m.around p)) (ne_eqb p m.start ne) ∙ ap (λ o. accounts t f o (m.around p)) e ∙ F.is;
+          has = has;
+          from = b;
+          was = eb;
+          made = made;
+        }
+
+    -- nothing is labelled so low that it stands on the way already
+    lower_still : (p : ℕ) (c b : C) (V : List ℕ) → f p ≡ Some c → Above c V → t.less b c ≡ true → Above b (p ∷ V)
+    lower_still p c b V e above lt q (inl i) = (c, ap f i ∙ e, lt)
+    lower_still p c b V e above lt q (inr i) = let (x, e1, lt1) = above q i in (x, e1, L.trans b c x lt lt1)
+
     traced : (n p : ℕ) (c : C) (V : List ℕ) → f p ≡ Some c → NoneTwice V → Above c V →
         limit ≤ length V + n → n ≤ limit → Traced n p c (trace t m f n p)
     unfolding trace
     traced zero p c V e apart above room le = absurd (let h = full p c V e apart above in omega arith)
     traced (suc n) p c V e apart above room le = at (λ q b ep. traced n q b (p ∷ V) ep) (cases_eq p m.start)
       where
-        more : (b : C) → t.less b c ≡ true → Above b (p ∷ V)
-        more b lt q (inl i) = (c, ap f i ∙ e, lt)
-        more b lt q (inr i) = let (x, e1, lt1) = above q i in (x, e1, L.trans b c x lt lt1)
-
         at : ((q : ℕ) (b : C) → f q ≡ Some b → NoneTwice (p ∷ V) → Above b (p ∷ V) →
             limit ≤ length (p ∷ V) + n → n ≤ limit → Traced n q b (trace t m f n q)) →
             (p ≡ m.start) ⊎ (p ≡ m.start → ⊥) → Traced (suc n) p c (hang p (back t m f p) (trace t m f n))
@@ -245,22 +272,16 @@ module _ {C : Type 0} {t : Rates C} {limit : ℕ} (L : Lawful t limit) where
             subst (λ o. Traced (suc n) p c (hang p o (trace t m f n))) (sym stop)
             (record { legal = free; ends = sym i; short = omega arith }, ap Some ce, best_of L m p c [] l here (ap Some ce))
         at ih (inr ne) =
-            let k = comes L m p c num (K.exact p c e) ne in
-            let eq = K.closed p k.from k.by k.was c e k.least k.has k.made in
-            let on : onward t (f k.from) k.by ≡ Some c = cond-true (t.has k.by) (then t (f k.from) k.by) None k.has ∙ ap (λ o. then t o k.by) eq ∙ k.made in
-            let F = first_found f c (m.around p) (record { by = k.by; to = k.from }) k.next on in
+            let B = steps_back p c e ne in
+            let F = B.found in
             let h = F.hop in
-            let goes : back t m f p ≡ Some h =
-            cond-false (eqb p m.start) None (accounts t f (f p) (m.around p)) (ne_eqb p m.start ne) ∙ ap (λ o. accounts t f o (m.around p)) e ∙ F.is in
-            let (has, e3) = cond_some (t.has h.by) (then t (f h.to) h.by) F.on in
-            let (b, eb, made) = then_some t (f h.to) h.by e3 in
-            let (r, costs, wire) = ih h.to b eb (fresh p c V e above, apart) (more b (L.grows b c h.by made)) (omega arith) (omega arith) in
+            let (r, costs, wire) = ih h.to B.from B.was (fresh p c V e above, apart) (lower_still p c B.from V e above (L.grows B.from c h.by B.made)) (omega arith) (omega arith) in
             let w = trace t m f n h.to in
             let hop : Hop = record { by = h.by; to = p } in
             let short : length w ≤ n = r.short in
-            let legal : Legal t.has m (hop ∷ w) = (free_of p c e, has, subst (λ z. Next m p h.by z) (sym r.ends) F.among, r.legal) in
-            let comes-to : cost t (hop ∷ w) ≡ Some c = ap (λ o. then t o h.by) costs ∙ made in
-            subst (λ o. Traced (suc n) p c (hang p o (trace t m f n))) (sym goes) (
+            let legal : Legal t.has m (hop ∷ w) = (free_of p c e, B.has, subst (λ z. Next m p h.by z) (sym r.ends) F.among, r.legal) in
+            let comes-to : cost t (hop ∷ w) ≡ Some c = ap (λ o. then t o h.by) costs ∙ B.made in
+            subst (λ o. Traced (suc n) p c (hang p o (trace t m f n))) (sym B.goes-back) (
               record { legal = legal; ends = refl; short = omega arith },
               comes-to,
               (
@@ -276,10 +297,6 @@ module _ {C : Type 0} {t : Rates C} {limit : ℕ} (L : Lawful t limit) where
     chained zero p c V e apart above room = absurd (let h = full p c V e apart above in omega arith)
     chained (suc n) p c V e apart above room = at (λ q b ep. chained n q b (p ∷ V) ep) (cases_eq p m.start)
       where
-        more : (b : C) → t.less b c ≡ true → Above b (p ∷ V)
-        more b lt q (inl i) = (c, ap f i ∙ e, lt)
-        more b lt q (inr i) = let (x, e1, lt1) = above q i in (x, e1, L.trans b c x lt lt1)
-
         at : ((q : ℕ) (b : C) → f q ≡ Some b → NoneTwice (p ∷ V) → Above b (p ∷ V) → limit ≤ length (p ∷ V) + n → Goes t m f q (visited m (trace t m f n q))) →
             (p ≡ m.start) ⊎ (p ≡ m.start → ⊥) → Goes t m f p (visited m (hang p (back t m f p) (trace t m f n)))
         at ih (inl i) =
@@ -287,17 +304,10 @@ module _ {C : Type 0} {t : Rates C} {limit : ℕ} (L : Lawful t limit) where
             let h : Goes t m f p (m.start ∷ []) = subst (λ z. Goes t m f p (z ∷ [])) i (here p c e i) in
             subst (λ o. Goes t m f p (visited m (hang p o (trace t m f n)))) (sym stop) h
         at ih (inr ne) =
-            let k = comes L m p c num (K.exact p c e) ne in
-            let eq = K.closed p k.from k.by k.was c e k.least k.has k.made in
-            let on : onward t (f k.from) k.by ≡ Some c = cond-true (t.has k.by) (then t (f k.from) k.by) None k.has ∙ ap (λ o. then t o k.by) eq ∙ k.made in
-            let F = first_found f c (m.around p) (record { by = k.by; to = k.from }) k.next on in
-            let h = F.hop in
-            let back_is : back t m f p ≡ Some h =
-            cond-false (eqb p m.start) None (accounts t f (f p) (m.around p)) (ne_eqb p m.start ne) ∙ ap (λ o. accounts t f o (m.around p)) e ∙ F.is in
-            let (has, e3) = cond_some (t.has h.by) (then t (f h.to) h.by) F.on in
-            let (b, eb, made) = then_some t (f h.to) h.by e3 in
-            let rest = ih h.to b eb (fresh p c V e above, apart) (more b (L.grows b c h.by made)) (omega arith) in
-            subst (λ o. Goes t m f p (visited m (hang p o (trace t m f n)))) (sym back_is) (goes p c h (visited m (trace t m f n h.to)) e ne F.is rest)
+            let B = steps_back p c e ne in
+            let h = B.found.hop in
+            let rest = ih h.to B.from B.was (fresh p c V e above, apart) (lower_still p c B.from V e above (L.grows B.from c h.by B.made)) (omega arith) in
+            subst (λ o. Goes t m f p (visited m (hang p o (trace t m f n)))) (sym B.goes-back) (goes p c h (visited m (trace t m f n h.to)) e ne B.found.is rest)
 
 pub least_is_known : (C : Type 0) → LeastIsKnown C
 least_is_known C t m limit L = record {

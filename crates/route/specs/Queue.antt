@@ -1,5 +1,5 @@
 -- The search: places that are labelled with their least cost, places that wait at the cost of some path, and what taking one does.
-use Rattle.std.specs.Prelude.{◌≡◌, ℕ, suc, ◌<◌, ◌≤◌, Bool, true, false, cond, ◌&&◌, ◌≢◌, ◌⊎◌, List, [], ◌∷◌, ◌++◌, length, Some, None, Option}
+use Rattle.std.specs.Prelude.{◌≡◌, ℕ, suc, ◌<◌, ◌≤◌, Bool, true, false, if◌then◌else◌, ◌&&◌, ◌≢◌, ◌⊎◌, List, [], ◌∷◌, ◌++◌, length, Some, None, Option}
 use Rattle.grid.specs.declared.step.Step.{Step}
 use Rattle.tariff.specs.Rates.{Rates}
 use Rattle.route.specs.Lawful.{Lawful}
@@ -91,7 +91,7 @@ is_new (Some c) = false
 
 -- what a place waits at once h was offered c and the step
 abbrev pub offer : {C : Type 0} → Rates C → Maze → State C → C → Hop → Option C
-offer t m s c h = cond (m.free h.to && is_new (s.label h.to)) (better t (s.waiting h.to) (onward t (Some c) h.by)) (s.waiting h.to)
+offer t m s c h = if m.free h.to && is_new (s.label h.to) then better t (s.waiting h.to) (onward t (Some c) h.by) else s.waiting h.to
 
 -- and then one offer after the other
 pub record Offered {C : Type 0} (t : Rates C) (m : Maze) (s : State C) (c : C) (h : Hop) (s' : State C) : Type 0 where

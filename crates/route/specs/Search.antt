@@ -1,5 +1,5 @@
 -- Legal paths through a maze, their costs, and the least of them.
-use Rattle.std.specs.Prelude.{◌≡◌, ℕ, zero, suc, ◌≤◌, Bool, true, false, cond, ◌↔◌, List, [], ◌∷◌, length, Some, None, Option, ◌==◌}
+use Rattle.std.specs.Prelude.{◌≡◌, ℕ, zero, suc, ◌≤◌, Bool, true, false, if◌then◌else◌, ◌↔◌, List, [], ◌∷◌, length, Some, None, Option, ◌==◌}
 use Rattle.grid.specs.declared.step.Step.{Step}
 use Rattle.tariff.specs.Rates.{Rates, then, charge}
 use Rattle.route.specs.Lawful.{Lawful}
@@ -44,21 +44,21 @@ pub record Least {C : Type 0} (t : Rates C) (m : Maze) (n p : ℕ) (c : C) : Typ
 abbrev pub better : {C : Type 0} → Rates C → Option C → Option C → Option C
 better t None o = o
 better t (Some a) None = Some a
-better t (Some a) (Some b) = Some (cond (t.less b a) b a)
+better t (Some a) (Some b) = Some (if t.less b a then b else a)
 
 abbrev pub onward : {C : Type 0} → Rates C → Option C → Step → Option C
-onward t o k = cond (t.has k) (then t o k) None
+onward t o k = if t.has k then (then) t o k else None
 
 abbrev pub best : {C : Type 0} → Rates C → (ℕ → Option C) → List Hop → Option C
 best t f [] = None
 best t f (h ∷ hs) = better t (onward t (f h.to) h.by) (best t f hs)
 
 abbrev pub at_start : {C : Type 0} → Rates C → Maze → ℕ → Option C
-at_start t m p = cond (p == m.start) (Some t.nothing) None
+at_start t m p = if p == m.start then Some t.nothing else None
 
 unfoldable pub least : {C : Type 0} → Rates C → Maze → ℕ → ℕ → Option C
-least t m zero p = cond (m.free p) (at_start t m p) None
-least t m (suc n) p = cond (m.free p) (better t (at_start t m p) (best t (least t m n) (m.around p))) None
+least t m zero p = if m.free p then at_start t m p else None
+least t m (suc n) p = if m.free p then better t (at_start t m p) (best t (least t m n) (m.around p)) else None
 
 abbrev pub LeastIsLeast : Type 0 → Type 0
 LeastIsLeast C = (t : Rates C) (m : Maze) (limit p : ℕ) → Lawful t limit →

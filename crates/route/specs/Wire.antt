@@ -1,5 +1,5 @@
 -- The wire: traced back from the goal over the places' costs, at each place to the first neighbour that accounts for its cost.
-use Rattle.std.specs.Prelude.{◌≡◌, ℕ, zero, suc, ◌<◌, Bool, true, false, cond, not, ◌&&◌, List, [], ◌∷◌, Some, None, Option, ◌==◌, ◌≢◌}
+use Rattle.std.specs.Prelude.{◌≡◌, ℕ, zero, suc, ◌<◌, Bool, true, false, if◌then◌else◌, not, ◌&&◌, List, [], ◌∷◌, Some, None, Option, ◌==◌, ◌≢◌}
 use Rattle.grid.specs.declared.step.Step.{Step}
 use Rattle.tariff.specs.Rates.{Rates}
 use Rattle.route.specs.Lawful.{Lawful}
@@ -13,7 +13,7 @@ is_cost t (Some a) c = not (t.less a c) && not (t.less c a)
 -- the first of the hops whose place's cost, with the step, comes to c
 abbrev pub first : {C : Type 0} → Rates C → (ℕ → Option C) → C → List Hop → Option Hop
 first t f c [] = None
-first t f c (h ∷ hs) = cond (is_cost t (onward t (f h.to) h.by) c) (Some h) (first t f c hs)
+first t f c (h ∷ hs) = if is_cost t (onward t (f h.to) h.by) c then Some h else first t f c hs
 
 abbrev pub accounts : {C : Type 0} → Rates C → (ℕ → Option C) → Option C → List Hop → Option Hop
 accounts t f None hs = None
@@ -21,7 +21,7 @@ accounts t f (Some c) hs = first t f c hs
 
 -- where the trace goes on from p: nowhere from the start
 abbrev pub back : {C : Type 0} → Rates C → Maze → (ℕ → Option C) → ℕ → Option Hop
-back t m f p = cond (p == m.start) None (accounts t f (f p) (m.around p))
+back t m f p = if p == m.start then None else accounts t f (f p) (m.around p)
 
 abbrev pub hang : ℕ → Option Hop → (ℕ → List Hop) → List Hop
 hang p None rest = []
