@@ -1,7 +1,7 @@
-use Rattle.std.proofs.Common.{◌≡◌, ◌-◌, length, sym, subst, ◌∙◌}
+use Rattle.std.proofs.Common.{◌-◌, length, sym, subst}
 use Rattle.front.specs.Places.{room}
-use Rattle.sift.specs.Layouts.{layout, filled, Sifted, LeastWaits}
-use Rattle.sift.proofs.Removing.{first_waits, moved_hole, removed}
+use Rattle.sift.specs.Layouts.{layout, filled, Sifted}
+use Rattle.sift.proofs.Removing.{first_waits, removed}
 use Rattle.heap.proofs.Changing.{gone_after}
 use Rattle.heap.proofs.Heap.remove_first.Goals as goal
 

@@ -1,6 +1,6 @@
 use Rattle.std.proofs.Common.{◌≡◌, ◌-◌, length, set, sym, refl, ap, subst, arith, rules}
 use Rattle.rows.specs.Rows.{Ordered}
-use Rattle.rows.proofs.Keeping.{filed_inside, next_inside, back_inside}
+use Rattle.rows.proofs.Keeping.{next_inside, back_inside}
 use Rattle.rows.proofs.Filing.{left_awaits, left_ordered}
 use Rattle.ring.proofs.Ring.leave.Goals as goal
 
