@@ -1,6 +1,6 @@
 use Rattle.std.proofs.Common.{◌≡◌, ◌-◌, length, set, sym, refl, ap, subst, arith, rules}
 use Rattle.rows.specs.Rows.{Ordered}
-use Rattle.rows.proofs.Keeping.{next_inside, back_inside}
+use Rattle.rows.proofs.Keeping.{filed_inside, next_inside, back_inside}
 use Rattle.rows.proofs.Filing.{left_awaits, left_ordered}
 use Rattle.ring.proofs.Ring.leave.Goals as goal
 
@@ -12,6 +12,12 @@ unlink-requires-clause-next g c =
 pub unlink-requires-clause-back : goal.unlink-requires-clause-back
 unlink-requires-clause-back g c e =
     let k = back_inside g.T.Tariff.rates c.requires.order c.args.row c.args.place c.requires.filed e in
+    omega arith
+
+pub set_cost-requires : goal.set_cost-requires
+set_cost-requires g c =
+    let i = filed_inside g.T.Tariff.rates c.requires.order c.args.row c.args.place c.requires.filed in
+    let len : length c.unlink.new.list ≡ length c.args.self.now.list.now = search rules in
     omega arith
 
 pub returns-clause-order : goal.returns-clause-order
