@@ -1,11 +1,11 @@
 -- Changes of the cost at which one place waits.
-use Rattle.std.proofs.Common.{◌≡◌, ℕ, ◌<◌, true, false, Some, None, Option, sym, refl, ap, ◌∙◌, subst, ⊎_elim}
+use Rattle.std.proofs.Common.{◌≡◌, ℕ, ◌<◌, true, Some, None, Option, sym, refl, ap, ◌∙◌, ⊎_elim}
 use Rattle.std.proofs.lemmas.Bool.{cases_eq, cases_Bool, cond-true, cond-false}
 use Rattle.grid.specs.declared.step.Step.{Step}
 use Rattle.tariff.specs.Rates.{Rates, Laws, then}
-use Rattle.front.specs.Queue.{Queue, Started, Offered, offer, smaller}
+use Rattle.front.specs.Queue.{Queue, Offered, offer, smaller}
 use Rattle.front.specs.Places.{Waits, Offers}
-use Rattle.front.proofs.Changes.{changed_at, changed_off, none_some}
+use Rattle.front.proofs.Changes.{changed_at, changed_off}
 
 module _ {C : Type 0} where
   pub here : {q q' : Queue C} {p : ℕ} {c : Option C} → Waits q q' p c → q'.waiting p ≡ c
@@ -25,50 +25,14 @@ module _ {C : Type 0} where
     serves = record { served = f.serves.served ∙ e.serves.served; spans = f.serves.spans ∙ e.serves.spans };
   }
 
-  -- no change
-  pub same : (q : Queue C) (p : ℕ) (c : Option C) → q.waiting p ≡ c → Waits q q p c
-  same q p c w = record {
-    waiting = λ k. ⊎_elim
-        (λ z. ap q.waiting z ∙ w ∙ sym (changed_at q.waiting p c k z))
-        (λ z. sym (changed_off q.waiting p c k z))
-        (cases_eq k p);
-    last = refl;
-    serves = record { served = refl; spans = refl };
-  }
-
-  -- a place that waits waits at the smaller cost
+  -- the smaller of a cost and none, or a greater one
   pub smaller_none : (t : Rates C) (o : Option C) (c : C) → o ≡ None → smaller t o c ≡ c
   smaller_none t o c e = ap (λ z. smaller t z c) e
 
   pub smaller_less : (t : Rates C) (o : Option C) (c d : C) → o ≡ Some d → t.less c d ≡ true → smaller t o c ≡ c
   smaller_less t o c d e l = ap (λ z. smaller t z c) e ∙ cond-true (t.less c d) c d l
 
-  pub smaller_not : (t : Rates C) (o : Option C) (c d : C) → o ≡ Some d → t.less c d ≡ false → smaller t o c ≡ d
-  smaller_not t o c d e l = ap (λ z. smaller t z c) e ∙ cond-false (t.less c d) c d l
-
-  module _ (t : Rates C) (q : Queue C) (p : ℕ) (c : C) where
-    -- c is less than any cost at which p waited, and takes its place
-    pub lowered : (q' : Queue C) → smaller t (q.waiting p) c ≡ c → Waits q q' p (Some c) → Offers t q q' p c
-    lowered q' l e = subst (λ x. Waits q q' p (Some x)) (sym l) e
-
-    -- c is not less
-    pub unmoved : (d : C) → q.waiting p ≡ Some d → t.less c d ≡ false → Offers t q q p c
-    unmoved d w l = same q p (Some (smaller t (q.waiting p) c)) (w ∙ ap Some (sym (smaller_not t (q.waiting p) c d w l)))
-
-  -- what the calls of a front ask of one place's change
   module _ {t : Rates C} where
-    -- START: it is the only one that waits
-    pub started : {q q' q'' : Queue C} {p : ℕ} → q.spans t.span ≡ true → p < q.served → ((k : ℕ) → q'.waiting k ≡ None) → q'.last ≡ None →
-        q'.served ≡ q.served → q'.spans ≡ q.spans → Waits q' q'' p (Some t.nothing) → Started t p q q''
-    started s i none l es ep e = record {
-      tariff = s;
-      inside = i;
-      first = here e;
-      others = λ k ne. others e k ne ∙ none k;
-      last = e.last ∙ l;
-      serves = record { served = e.serves.served ∙ es; spans = e.serves.spans ∙ ep };
-    }
-
     -- a step that the tariff lacks is refused, so what the step makes of the cost taken last is the offer
     pub offer_is : Laws t → (l : Option C) (k : Step) → offer t l k ≡ then t l k
     offer_is laws None k = refl

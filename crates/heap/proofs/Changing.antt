@@ -2,7 +2,7 @@
 use Rattle.std.proofs.Common.{◌≡◌, ℕ, ◌-◌, List, length, Some, None, sym, refl, ap, ◌∙◌, subst, ⊎_elim}
 use Rattle.std.proofs.lemmas.Bool.{cases_eq}
 use Rattle.tariff.specs.Rates.{Rates}
-use Rattle.front.specs.Places.{room, changed, Waits}
+use Rattle.front.specs.Places.{room, Waits}
 use Rattle.front.proofs.Changes.{changed_at, changed_off}
 use Rattle.sift.specs.declared.record.HeapRecord.{HeapRecord}
 use Rattle.sift.specs.Layouts.{layout, filled, priced, wait_cost, HoleUp, Sifted, WaitsAt, WaitsNoMore}

@@ -54,7 +54,8 @@ pub fn set_cost<C: Copy>(list: &mut [HeapRecord<C>], place: u32, cost: C)
     list[place as usize + 1].cost = cost;
 }
 
-// Puts a place at a position.
+// Puts a place at a position. The ring has the same for its records: one function for both would need a trait with a read and
+// a write of each field, and be no plainer.
 pub fn link<C: Copy>(list: &mut [HeapRecord<C>], position: usize, place: u32)
     requires first { 1 ≤ position }
     requires small { position ≤ 4294967296 }

@@ -1,5 +1,5 @@
 -- A ring where no place waits is in order.
-use Rattle.std.proofs.Common.{◌≡◌, ℕ, ◌≤◌, length, get_or, None, sym, ap, ◌∙◌, subst, arith}
+use Rattle.std.proofs.Common.{ℕ, ◌≤◌, length, get_or, None, sym, ap, ◌∙◌, subst, arith}
 use Rattle.tariff.specs.Rates.{Rates}
 use Rattle.rows.specs.Waiting.{layout}
 use Rattle.front.specs.Places.{room}

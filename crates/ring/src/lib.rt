@@ -27,7 +27,7 @@ pub struct Ring<'a, C: Copy> {
     touched: usize,
     // How many rows are in use.
     rows: u64,
-    // The first place of each row.
+    // The first place of each row; an array of the most rows, since the tariff is known only when it starts.
     heads: [Option<u32>; 32],
     // The cost taken last.
     last: Option<C>,

@@ -41,7 +41,8 @@ fn set_back<C: Copy>(list: &mut [RingRecord<C>], place: u32, back: u32)
     list[place as usize + 1].back = back;
 }
 
-// Lets a position and a place name each other.
+// Lets a position and a place name each other. The heap has the same for its records: one function for both would need a trait
+// with a read and a write of each field, and be no plainer.
 fn seat<C: Copy>(list: &mut [RingRecord<C>], position: usize, place: u32)
     requires place { place + 1 < length list.old }
     requires position { position < room (length list.old) }

@@ -129,12 +129,6 @@ module _ {C : Type 0} (t : Rates C) where
         fits = λ c f. absurd (none_some None c refl f);
       }
 
-  -- the cost nothing is near where nothing was taken
-  pub nothing_within : (rows : ℕ) → some_rows t.span ≡ true → rows ≡ t.span + 1 → Within t rows (base t None) t.nothing
-  nothing_within rows e er =
-      let a = (few_rows t.span e).0 in
-      record { fits = record { levels = omega arith; wide = omega arith }; least = omega arith; most = omega arith }
-
   module _ {h : ℕ → RingRecord C} {n touched rows : ℕ} {heads : ℕ → Option ℕ} {l : Option C} (S : Sound t h n touched rows heads l) where
     -- the row of a place that waits
     pub row_is : (p : ℕ) (c : C) → awaits h touched p ≡ Some c → filed t rows (awaits h touched) p ≡ Some (t.level c % rows)
@@ -335,13 +329,3 @@ module _ {C : Type 0} (t : Rates C) where
           record { fits = fits; least = m p d e; most = omega arith };
       fits = λ _ _. fits;
     }
-
-    -- a step from the cost taken last leads to a level near enough
-    pub step_within : Laws t → (a c : C) (k : Step) → l ≡ Some a → t.after a k ≡ Some c → Within t rows (base t l) c
-    step_within laws a c k e o =
-        let f = S.fits a e in
-        let w = f.wide in
-        let u = laws.rises a c k f.levels o in
-        let x = u.0 in
-        let y = u.1 in
-        subst (λ z. Within t rows (base t z) c) (sym e) (record { fits = f; least = omega arith; most = omega arith })

@@ -1,5 +1,5 @@
 -- Places and positions that name each other.
-use Rattle.std.proofs.Common.{◌≡◌, ℕ, zero, suc, ◌+◌, ◌<◌, ◌≤◌, true, false, cond, eqb, ltb, Some, None, sym, refl, ap, ◌∙◌, subst, ⊎_elim, arith}
+use Rattle.std.proofs.Common.{◌≡◌, ℕ, ◌+◌, ◌<◌, ◌≤◌, true, false, eqb, ltb, Some, None, sym, refl, ap, ◌∙◌, subst, ⊎_elim, arith}
 use Rattle.std.proofs.lemmas.Bool.{cases_eq, cases_Bool, cases_lt, both_ways, cond-true, cond-false, eq-eqb, ne_eqb, eqb-true, ltb-true, lt-ltb, le-ltb, and_parts, and_from, and_left, and_right}
 use Rattle.rows.specs.declared.RingRecord.{RingRecord}
 use Rattle.rows.specs.Waiting.{vouched, awaits}
@@ -21,9 +21,6 @@ module _ {C : Type 0} (h : ℕ → RingRecord C) (touched : ℕ) where
 
   pub vouched_far : (p : ℕ) → touched ≤ (h p).at → vouched h touched p ≡ false
   vouched_far p l = and_left (ltb (h p).at touched) (eqb (h (h p).at).slot p) (le-ltb (h p).at touched l)
-
-  pub vouched_not : (p : ℕ) → ((h (h p).at).slot ≡ p → ⊥) → vouched h touched p ≡ false
-  vouched_not p ne = and_right (ltb (h p).at touched) (eqb (h (h p).at).slot p) (ne_eqb (h (h p).at).slot p ne)
 
   -- a place that waits is in use
   pub awaits_vouched : (p : ℕ) (c : C) → awaits h touched p ≡ Some c → vouched h touched p ≡ true

@@ -1,5 +1,5 @@
 -- The inner order of a ring.
-use Rattle.std.specs.Prelude.{◌≡◌, ℕ, ◌+◌, ◌-◌, ◌%◌, ◌<◌, ◌≤◌, min, List, length, Some, None, Option, ◌≢◌, slice_index_or}
+use Rattle.std.specs.Prelude.{◌≡◌, ℕ, ◌+◌, ◌%◌, ◌<◌, ◌≤◌, List, length, Some, None, Option, ◌≢◌, slice_index_or}
 use Rattle.std.specs.Option.{option_map, unwrap_or}
 use Rattle.tariff.specs.Rates.{Rates}
 use Rattle.rows.specs.declared.RingRecord.{RingRecord}

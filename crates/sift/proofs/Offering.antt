@@ -2,9 +2,9 @@
 use Rattle.std.proofs.Common.{◌≡◌, ℕ, ◌+◌, ◌/◌, ◌<◌, ◌≤◌, true, false, Some, sym, refl, ap, ◌∙◌, subst, ⊎_elim, arith}
 use Rattle.std.proofs.lemmas.Bool.{cases_eq}
 use Rattle.tariff.specs.Rates.{Rates, Laws}
-use Rattle.sift.specs.Layouts.{Layout, filled, priced, lower, key, waits, Linked, Heaped, OrderUp, HoleUp, Sifted, WaitsAt, WaitsAlone}
+use Rattle.sift.specs.Layouts.{Layout, filled, priced, lower, key, waits, Linked, Heaped, OrderUp, HoleUp, Sifted, WaitsAt}
 use Rattle.front.proofs.Changes.{changed_at, changed_off}
-use Rattle.sift.proofs.Links.{same_test, waits_true, waits_position, position_waits, waiting_cost, wait_cost_same, empty_wait_cost, filled_self}
+use Rattle.sift.proofs.Links.{same_test, waits_true, waits_position, position_waits, waiting_cost, wait_cost_same, filled_self}
 use Rattle.sift.proofs.Orders.{not_lower, lower_not}
 use Rattle.sift.proofs.Rooms.{absent, has_room}
 
@@ -155,7 +155,3 @@ empty_heaped t h n = record {
   linked = record { few = omega arith; slots = λ i i1 ic. absurd (omega arith) };
   order = λ j j2 jc. absurd (omega arith);
 }
-
--- what is inserted there waits alone
-pub inserted_alone : {C : Type 0} {t : Rates C} (h h' : Layout C) (n count p : ℕ) (x : C) → WaitsAt t h h' n 0 count p x → WaitsAlone t h' n count p x
-inserted_alone h h' n count p x r = record { heaped = r.heaped; here = r.here; others = λ k ne. r.others k ne ∙ empty_wait_cost h k }

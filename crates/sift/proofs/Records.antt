@@ -1,12 +1,12 @@
 -- What reads and writes of the list are in the layout.
 use Rattle.std.proofs.Common.{◌≡◌, ℕ, ◌+◌, ◌<◌, List, length, get_or, set, Some, Option, sym, refl, ap, ◌∙◌, ⊎_elim, arith, length-set, get_or-set_other, get_or-set_same}
-use Rattle.std.proofs.lemmas.Bool.{cases_eq, cases_lt, eq-eqb, ne_eqb}
+use Rattle.std.proofs.lemmas.Bool.{cases_eq, cases_lt}
 use Rattle.std.proofs.lemmas.Option.{slice_get-get_or, slice_get_past}
 use Rattle.std.specs.List.{slice_get}
 use Rattle.front.proofs.Changes.{changed_at, changed_off}
 use Rattle.sift.specs.declared.record.HeapRecord.{HeapRecord}
 use Rattle.front.specs.Places.{changed}
-use Rattle.sift.specs.Layouts.{Layout, layout, priced, slot_in, at_in, cost_in}
+use Rattle.sift.specs.Layouts.{Layout, layout, slot_in, at_in, cost_in}
 
 -- one record is written
 nth_set_same : {X : Type 0} (xs : List X) (i : ℕ) (r : X) → i < length xs → slice_get (set xs i r) i ≡ Some r
@@ -21,16 +21,6 @@ nth_set_other xs i x r ne = ⊎_elim
 module _ {C : Type 0} where
   pub layout_same : (h k : Layout C) → ((x : ℕ) → h.slot x ≡ k.slot x) → ((x : ℕ) → h.at x ≡ k.at x) → ((x : ℕ) → h.cost x ≡ k.cost x) → h ≡ k
   layout_same h k s a c = λ i. record { slot = λ x. s x i; at = λ x. a x i; cost = λ x. c x i }
-
-  -- what a read of a record gives
-  pub read_slot : (xs : List (HeapRecord C)) (i : ℕ) (d : HeapRecord C) → i < length xs → (layout xs).slot i ≡ (get_or xs i d).slot
-  read_slot xs i d l = ap slot_in (slice_get-get_or xs i d l)
-
-  pub read_at : (xs : List (HeapRecord C)) (p : ℕ) (d : HeapRecord C) → p + 1 < length xs → (layout xs).at p ≡ (get_or xs (p + 1) d).at + 1
-  read_at xs p d l = ap (λ o. at_in o + 1) (slice_get-get_or xs (p + 1) d l)
-
-  pub read_cost : (xs : List (HeapRecord C)) (p : ℕ) (d : HeapRecord C) → p + 1 < length xs → (layout xs).cost p ≡ Some (get_or xs (p + 1) d).cost
-  read_cost xs p d l = ap cost_in (slice_get-get_or xs (p + 1) d l)
 
   -- a field that the write leaves as it is
   left : {X : Type 0} (f : Option (HeapRecord C) → X) (xs : List (HeapRecord C)) (i : ℕ) (r d : HeapRecord C) (x : ℕ) → i < length xs → f (Some r) ≡ f (Some (get_or xs i d)) →
@@ -66,12 +56,3 @@ module _ {C : Type 0} where
       (λ x. left slot_in xs (p + 1) r d x l refl)
       (λ x. wrote (λ o. at_in o + 1) (λ k. k + 1) xs p r x l (λ s. omega arith) ∙ ap (λ z. changed (layout xs).at p z x) e)
       (λ x. left cost_in xs (p + 1) r d (x + 1) l refl)
-
-  pub write_cost : (xs : List (HeapRecord C)) (p : ℕ) (c : C) (d : HeapRecord C) → p + 1 < length xs →
-      layout (set xs (p + 1) (record { cost = c; slot = (get_or xs (p + 1) d).slot; at = (get_or xs (p + 1) d).at })) ≡ priced (layout xs) p c
-  write_cost xs p c d l =
-      let r : HeapRecord C = record { cost = c; slot = (get_or xs (p + 1) d).slot; at = (get_or xs (p + 1) d).at } in
-      layout_same _ _
-      (λ x. left slot_in xs (p + 1) r d x l refl)
-      (λ x. ap (λ z. z + 1) (left at_in xs (p + 1) r d (x + 1) l refl))
-      (λ x. wrote cost_in (λ k. k + 1) xs p r x l (λ s. omega arith))

@@ -5,10 +5,8 @@ use Rattle.tariff.specs.Rates.{Rates, Laws}
 use Rattle.front.proofs.Costs.{under}
 use Rattle.sift.specs.Layouts.{Layout, filled, lower, key, waits, wait_cost, Linked, Heaped, HoleDown, Sifted, WaitsNoMore, LeastWaits}
 use Rattle.front.proofs.Changes.{changed_at, changed_off}
-use Rattle.sift.proofs.Links.{same_test, waits_true, waits_position, position_waits, slot_waits, waits_false, empty_waits, waiting_cost, wait_cost_same}
+use Rattle.sift.proofs.Links.{same_test, waits_true, waits_position, position_waits, slot_waits, waiting_cost, wait_cost_same}
 use Rattle.sift.proofs.Orders.{first_least}
-use Rattle.sift.proofs.Sifts.{same_self}
-use Rattle.sift.proofs.Offering.{empty_heaped}
 
 -- in v the place p does not wait, and every other does as in h
 record Without {C : Type 0} (h v : Layout C) (count m p : ℕ) : Type 0 where
@@ -124,16 +122,3 @@ module _ {C : Type 0} {t : Rates C} (h : Layout C) (n count : ℕ) (s : Heaped t
 
   pub removed : (k : Layout C) → Sifted t (filled h 1 (h.slot count)) k n (count - 1) → WaitsNoMore t h k n count (count - 1) (h.slot 1)
   removed k r = waits_no_more moved_without r
-
--- it was the only one
-pub removed_only : {C : Type 0} {t : Rates C} (h : Layout C) (n count : ℕ) → count ≤ 1 → WaitsNoMore t h h n count 0 (h.slot 1)
-removed_only {t} h n count one =
-    let w : Without h h count 0 (h.slot 1) = record {
-      gone = empty_waits h (h.slot 1);
-      others = λ k ne. empty_waits h k ∙ sym (waits_false h count k (λ a.
-          let a1 = a.first in let am = a.most in
-          let e : h.at k ≡ 1 = omega arith in
-          ne (sym a.back ∙ ap h.slot e)));
-      costs = λ k. refl;
-    } in
-    waits_no_more w (record { same = same_self h 0; heaped = empty_heaped t h n })

@@ -1,9 +1,7 @@
 -- A place that does not wait finds a position.
-use Rattle.std.proofs.Common.{◌≡◌, ℕ, ◌+◌, ◌<◌, ◌≤◌, false, cond, eqb, sym, ap, ◌∙◌, subst, ⊎_elim, arith}
-use Rattle.std.proofs.lemmas.Bool.{cases_eq, both_ways, cond-true, cond-false, eq-eqb, ne_eqb}
-use Rattle.front.specs.Places.{changed}
+use Rattle.std.proofs.Common.{◌≡◌, ℕ, ◌+◌, ◌<◌, ◌≤◌, false, sym, ap, ◌∙◌, arith}
+use Rattle.std.proofs.lemmas.Bool.{both_ways}
 use Rattle.sift.specs.Layouts.{Layout, waits, Linked}
-use Rattle.front.proofs.Changes.{changed_at, changed_off}
 use Rattle.front.proofs.Numbers.{leaves_room}
 use Rattle.sift.proofs.Links.{slot_waits}
 

@@ -2,7 +2,7 @@
 use Rattle.std.proofs.Common.{◌≡◌, ℕ, ◌+◌, ◌/◌, ◌<◌, ◌≤◌, true, false, Some, None, sym, refl, ap, ◌∙◌, subst, arith}
 use Rattle.tariff.specs.Rates.{Rates, Laws}
 use Rattle.front.specs.Places.{room, changed}
-use Rattle.sift.specs.Layouts.{Layout, filled, lower, key, Order, Hole, HoleUp, HoleDown, SameWaiting, Sifted, Vacant, below_parent, lower_child}
+use Rattle.sift.specs.Layouts.{Layout, filled, lower, key, Order, Hole, HoleUp, HoleDown, SameWaiting, Sifted, below_parent, lower_child}
 use Rattle.front.proofs.Changes.{changed_at, changed_off}
 use Rattle.sift.proofs.Links.{link_step, link_waits}
 use Rattle.sift.proofs.Orders.{swap_up, settled_up, swap_down, settled_down, below_parent_true, below_parent_false, lower_child_some, lower_child_none}
@@ -37,27 +37,9 @@ module _ {C : Type 0} (h : Layout C) (n count i u q : ℕ) (c : C) (s : Hole h n
   pub hole_key : key (filled h i q) u ≡ key h u
   hole_key = ap h.cost (changed_off h.slot i q u ne)
 
--- a position and a place that a list of m records has
-pub record Fits (m i p : ℕ) : Type 0 where
-  pub first : 1 ≤ i
-  pub small : i ≤ 4294967296
-  pub position : i < m
-  pub place : p + 1 < m
-
--- the hole and the place that is to fill it
-pub hole_fits : {C : Type 0} (h : Layout C) (m m' count i q : ℕ) (c : C) → m ≡ m' → Hole h (room m') count i q c → Fits m i q
-hole_fits h m m' count i q c e s =
-    let few = s.linked.few in
-    let first = s.first in
-    let most = s.most in
-    let place = s.place in
-    record { first = first; small = omega arith; position = omega arith; place = omega arith }
-
--- the other positions have places
-pub hole_vacant : {C : Type 0} (h : Layout C) (m m' count i q : ℕ) (c : C) → m ≡ m' → Hole h (room m') count i q c → Vacant h (room m) count i
-hole_vacant h m m' count i q c e s =
-    let few = s.linked.few in
-    record { few = omega arith; first = s.first; most = s.most; places = λ j j1 jc ne. let p = hole_place h (room m') count i j q c s j1 jc ne in omega arith }
+-- that place has a record, in a list of m
+pub place_inside : {C : Type 0} (h : Layout C) (m m' count i u q : ℕ) (c : C) → m ≡ m' → Hole h (room m') count i q c → 1 ≤ u → u ≤ count → (u ≡ i → ⊥) → h.slot u + 1 < m
+place_inside h m m' count i u q c e s u1 um ne = let p = hole_place h (room m') count i u q c s u1 um ne in omega arith
 
 module _ {C : Type 0} (h : Layout C) (n count i q : ℕ) (c : C) (s : Hole h n count i q c) where
   pub hole_here : key (filled h i q) i ≡ Some c

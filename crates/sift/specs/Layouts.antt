@@ -1,5 +1,5 @@
 -- An indexed binary heap: which place is at which position, and what holds while a place is sifted up or down.
-use Rattle.std.specs.Prelude.{◌≡◌, ℕ, ◌+◌, ◌-◌, ◌*◌, ◌/◌, ◌<◌, ◌≤◌, min, Bool, true, false, cond, ◌&&◌, List, Some, None, Option, ◌==◌, ◌≢◌, nat_le, nat_lt}
+use Rattle.std.specs.Prelude.{◌≡◌, ℕ, ◌+◌, ◌*◌, ◌/◌, ◌<◌, ◌≤◌, Bool, true, false, cond, ◌&&◌, List, Some, None, Option, ◌==◌, ◌≢◌, nat_le, nat_lt}
 use Rattle.std.specs.List.{slice_get}
 use Rattle.grid.specs.declared.step.Step.{Step}
 use Rattle.tariff.specs.Rates.{Rates}
@@ -146,12 +146,6 @@ pub record WaitsAt {C : Type 0} (t : Rates C) (h h' : Layout C) (n count count' 
   pub heaped : Heaped t h' n count'
   pub here : wait_cost h' count' p ≡ Some x
   pub others : (k : ℕ) → (k ≢ p) → wait_cost h' count' k ≡ wait_cost h count k
-
--- the place p alone waits, at x
-pub record WaitsAlone {C : Type 0} (t : Rates C) (h : Layout C) (n count p : ℕ) (x : C) : Type 0 where
-  pub heaped : Heaped t h n count
-  pub here : wait_cost h count p ≡ Some x
-  pub others : (k : ℕ) → (k ≢ p) → wait_cost h count k ≡ None
 
 -- the place p waits no more, and every other as before
 pub record WaitsNoMore {C : Type 0} (t : Rates C) (h h' : Layout C) (n count count' p : ℕ) : Type 0 where

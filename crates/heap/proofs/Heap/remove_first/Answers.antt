@@ -1,9 +1,17 @@
-use Rattle.std.proofs.Common.{◌≡◌, ◌-◌, length, sym, subst, ◌∙◌}
+use Rattle.std.proofs.Common.{◌-◌, length, sym, subst}
 use Rattle.front.specs.Places.{room}
-use Rattle.sift.specs.Layouts.{layout, filled, Sifted, LeastWaits}
+use Rattle.sift.specs.Layouts.{layout, filled, HoleDown, Sifted}
 use Rattle.sift.proofs.Removing.{first_waits, moved_hole, removed}
 use Rattle.heap.proofs.Changing.{gone_after}
 use Rattle.heap.proofs.Heap.remove_first.Goals as goal
+
+pub sift_down-requires : goal.sift_down-requires
+sift_down-requires g c =
+    let s = c.args.self.now in
+    let xs = s.list.now in
+    let x = c.at-last.result.cost in
+    subst (λ q. HoleDown g.T.Tariff.rates (layout xs) (room (length xs)) (s.count - 1) 1 q x) c.at-last.ensures.place
+    (moved_hole (layout xs) (room (length xs)) s.count c.requires.order c.if-count-gt1.true x c.at-last.ensures.cost)
 
 pub returns-then-count-gt1-clause-first : goal.returns-then-count-gt1-clause-first
 returns-then-count-gt1-clause-first g c =

@@ -2,7 +2,7 @@ use Rattle.std.proofs.Common.{length, subst, ◌∙◌, arith}
 use Rattle.front.specs.Places.{room}
 use Rattle.sift.specs.Layouts.{layout, filled, Sifted}
 use Rattle.sift.proofs.Orders.{lower_child_some}
-use Rattle.sift.proofs.Sifts.{hole_place, down_turn, down_done}
+use Rattle.sift.proofs.Sifts.{place_inside, down_turn, down_done}
 use Rattle.heap.proofs.Heap.sift_down.Goals as goal
 
 pub link-requires-clause-place : goal.link-requires-clause-place
@@ -12,13 +12,12 @@ link-requires-clause-place g c =
     let xs = c.loop-child.self.list.now in
     let i = c.loop-child.hole in
     let n = c.loop-child.self.count in
-    let len = v.records in
     let l = (lower_child_some g.met.T.Tariff.laws (layout xs) n i c.args.cost c.in-Some.child c.in-Some.ensures).child in
     let first = s.first in
     let under = l.under in
-    let p = hole_place (layout xs) (room (length c.args.self.now.list.now)) n i c.in-Some.child c.args.place c.args.cost s (omega arith) l.most (λ e. omega arith) in
-    let e = c.slot_at-other.ensures in
-    omega arith
+    rw (← c.slot_at-other.ensures)
+    (place_inside (layout xs) (length xs) (length c.args.self.now.list.now) n i c.in-Some.child c.args.place c.args.cost v.records s
+    (omega arith) l.most (λ e. omega arith))
 
 pub loop-child-preserved : goal.loop-child-preserved
 loop-child-preserved g c =

@@ -1,22 +1,19 @@
-use Rattle.std.proofs.Common.{◌≡◌, ◌/◌, length, sym, subst, ap, ◌∙◌, arith}
+use Rattle.std.proofs.Common.{◌/◌, length, subst, ◌∙◌, arith}
 use Rattle.front.specs.Places.{room}
 use Rattle.sift.specs.Layouts.{layout, filled, Sifted}
 use Rattle.sift.proofs.Orders.{below_parent_true}
-use Rattle.sift.proofs.Sifts.{hole_place, up_turn, up_done}
+use Rattle.sift.proofs.Sifts.{place_inside, up_turn, up_done}
 use Rattle.heap.proofs.Heap.sift_up.Goals as goal
 
--- the hole's parent has a place
-parent_inside : goal.is_below_parent-requires-clause-parent
-parent_inside g c two =
+pub is_below_parent-requires-clause-parent : goal.is_below_parent-requires-clause-parent
+is_below_parent-requires-clause-parent g c two =
     let v = c.loop-cost.invariant in
     let s = v.going.0.hole in
+    let xs = c.loop-cost.self.list.now in
+    let i = c.loop-cost.hole in
     let most = s.most in
-    let len = v.records in
-    let p = hole_place (layout c.loop-cost.self.list.now) (room (length c.args.self.now.list.now)) c.loop-cost.self.count c.loop-cost.hole (c.loop-cost.hole / 2) c.args.place c.args.cost s (omega arith) (omega arith) (λ e. omega arith) in
-    omega arith
-
-pub is_below_parent-requires-clause-parent : goal.is_below_parent-requires-clause-parent
-is_below_parent-requires-clause-parent g c two = parent_inside g c two
+    place_inside (layout xs) (length xs) (length c.args.self.now.list.now) c.loop-cost.self.count i (i / 2) c.args.place c.args.cost v.records s
+    (omega arith) (omega arith) (λ e. omega arith)
 
 pub link-requires-clause-place : goal.link-requires-clause-place
 link-requires-clause-place g c =
@@ -25,11 +22,10 @@ link-requires-clause-place g c =
     let xs = c.loop-cost.self.list.now in
     let i = c.loop-cost.hole in
     let most = s.most in
-    let len = v.records in
     let two = (below_parent_true g.T.Tariff.rates (layout xs) i c.args.cost c.loop-cost-test.ensures).0 in
-    let p = hole_place (layout xs) (room (length c.args.self.now.list.now)) c.loop-cost.self.count i (i / 2) c.args.place c.args.cost s (omega arith) (omega arith) (λ e. omega arith) in
-    let e = c.slot_at-parent.ensures in
-    omega arith
+    rw (← c.slot_at-parent.ensures)
+    (place_inside (layout xs) (length xs) (length c.args.self.now.list.now) c.loop-cost.self.count i (i / 2) c.args.place c.args.cost v.records s
+    (omega arith) (omega arith) (λ e. omega arith))
 
 pub loop-cost-preserved : goal.loop-cost-preserved
 loop-cost-preserved g c =

@@ -14,6 +14,12 @@ unlink-requires-clause-back g c e =
     let k = back_inside g.T.Tariff.rates c.requires.order c.args.row c.args.place c.requires.filed e in
     omega arith
 
+pub set_cost-requires : goal.set_cost-requires
+set_cost-requires g c =
+    let i = filed_inside g.T.Tariff.rates c.requires.order c.args.row c.args.place c.requires.filed in
+    let len : length c.unlink.new.list ≡ length c.args.self.now.list.now = search rules in
+    omega arith
+
 pub returns-clause-order : goal.returns-clause-order
 returns-clause-order g c =
     let t = g.T.Tariff.rates in

@@ -1,4 +1,4 @@
-use Rattle.std.proofs.Common.{refl, lit≤}
+use Rattle.std.proofs.Common.{lit≤}
 use Rattle.rows.specs.Waiting.{layout}
 use Rattle.front.specs.Places.{room}
 use Rattle.std.proofs.Common.{length}

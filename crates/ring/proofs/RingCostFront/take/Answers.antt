@@ -1,8 +1,7 @@
 use Rattle.std.proofs.Common.{sym, refl, ◌∙◌, ⊎_elim, arith}
-use Rattle.rows.proofs.Keeping.{none_waits, head_inside, first_filed, first_waits, first_early}
+use Rattle.rows.proofs.Keeping.{none_waits, head_inside, first_waits, first_early}
 use Rattle.front.proofs.Changes.{cases_option}
 use Rattle.front.proofs.Offers.{here, others}
-use Rattle.ring.specs.Rings.{view_of}
 use Rattle.ring.proofs.Taking.{taken_order}
 use Rattle.ring.proofs.RingCostFront.take.Goals as goal
 
