@@ -1,5 +1,5 @@
 -- Rectangles, what the making of one answers, and what lies in one.
-use Rattle.std.specs.Prelude.{◌≡◌, ◌≤◌, Bool, cond, ◌&&◌, Ok, Err, Result, ◌==◌, nat_le}
+use Rattle.std.specs.Prelude.{◌≡◌, ◌≤◌, Bool, if◌then◌else◌, ◌&&◌, Ok, Err, Result, ◌==◌, nat_le}
 use Rattle.grid.specs.declared.shape.Coordinates.{Coordinates}
 use Rattle.grid.specs.declared.fault.SheetFault.{SheetFault}
 use Rattle.grid.specs.Faults.{Refusal, refusal, sheet_refusal}
@@ -21,7 +21,7 @@ told (Err f) = Err (sheet_refusal f)
 
 -- the rectangle with these numbers; else refusal 1, which names 0
 abbrev pub rectangle_answer : Row → Result Row Refusal
-rectangle_answer x = cond (is_rectangle x) (Ok x) (Err (refusal 1 0))
+rectangle_answer x = if is_rectangle x then Ok x else Err (refusal 1 0)
 
 -- the coordinates lie within the numbers
 abbrev pub is_within : Row → Coordinates → Bool

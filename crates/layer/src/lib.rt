@@ -29,7 +29,8 @@ pub trait Narrowing {
     ghost exact: { (s : Self) (g : GroundMeaning) → Sound g → (p n : ℕ) → (opened s g p n ≡ true) ↔ Opens s g p n };
 }
 
-// A layer over a sheet that it borrows.
+// A layer over a sheet that it borrows. Held by value, a sheet with a lent list would be a type argument that holds a
+// `&mut` and a struct with a ghost field, and the borrow checker does not cover a function that puts a layer over one.
 #[derive(Drop)]
 pub struct Layer<'a, S, N> {
     below: &'a mut S,

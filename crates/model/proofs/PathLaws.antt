@@ -1,13 +1,12 @@
 -- A path that is asked and then laid place by place.
 use Rattle.std.proofs.Common.{◌≡◌, ℕ, zero, suc, ◌+◌, ◌-◌, ◌<◌, ◌≤◌, min, Bool, true, false, cond, ◌||◌, eqb, ltb, leb, ◌⊎◌, ◌↔◌, List, [], ◌∷◌, ◌++◌, length, get_or, take, drop, Ok, Err, Result, sym, refl, ap, ◌∙◌, subst, inl, inr, ⊎_elim, not-suc-le-zero, arith}
-use Rattle.std.proofs.lemmas.List.{take_more, take_all, at_drop_more, at_drop_all}
-use Rattle.std.proofs.lemmas.Bool.{cases_lt, cases_Bool, lt-ltb, le-ltb, le-leb, eq-eqb, cond-true, cond-false, cond_both, or_left, or_right, or_cases, eqb-true, ltb-true, leb-true, true≢false}
+use Rattle.std.proofs.lemmas.List.{take_more, at_drop_more}
+use Rattle.std.proofs.lemmas.Bool.{cases_lt, cases_Bool, lt-ltb, le-leb, eq-eqb, cond-true, cond-false, cond_both, or_left, or_right, or_cases, eqb-true, ltb-true, leb-true, true≢false}
 use Rattle.std.proofs.lemmas.Bool.Decides.{nat_tests}
 use Rattle.grid.proofs.Numbering.{count_most}
-use Rattle.grid.specs.declared.fault.SheetFault.{SheetFault}
-use Rattle.grid.specs.Faults.{Refusal, refusal, sheet_refusal}
+use Rattle.grid.specs.Faults.{Refusal, refusal}
 use Rattle.grid.specs.Places.{count_of}
-use Rattle.model.specs.Sheets.{Sheet, Sound, Laid, places, spare, ask, is_net, bare_at, put, tally, lay_answer, answered}
+use Rattle.model.specs.Sheets.{Sheet, Sound, Laid, places, spare, ask, is_net, bare_at, put, tally, lay_answer}
 use Rattle.model.specs.Paths.{on, Distinct, bare_entries, bare_on, spare_answer, along, cover_answer, Coverable, CoverIsExact, Covered}
 use Rattle.model.proofs.Calls.{lay_ok}
 use Rattle.model.proofs.Tallies.{tally_lay, tally_most, tally_same}
@@ -26,16 +25,9 @@ on_getD (p ∷ ps) (suc k) h = or_right (eqb (get_or ps k 0) p) (on (get_or ps k
 pub err_ok : {A : Type 0} (f : Refusal) → ◌≡◌ {A = Result (Unit {0}) Refusal} (Err f) (Ok tt) → A
 err_ok f e = let z : ◌≡◌ {A = ℕ} 0 1 = cc in absurd (omega arith)
 
-pub granted_ok : (r : Result (Unit {0}) SheetFault) → answered r ≡ Ok tt → r ≡ Ok tt
-granted_ok (Ok u) e = refl
-granted_ok (Err f) e = err_ok (sheet_refusal f) e
-
--- QUESTIONS that hold and that do not
+-- QUESTIONS that hold
 ask_yes : (t : Bool) (f : Refusal) (rest : Result (Unit {0}) Refusal) → t ≡ true → ask t f rest ≡ rest
 ask_yes t f rest e = cond-true t rest (Err f) e
-
-ask_no : (t : Bool) (f : Refusal) (rest : Result (Unit {0}) Refusal) → t ≡ false → ask t f rest ≡ Err f
-ask_no t f rest e = cond-false t rest (Err f) e
 
 -- a question that was passed
 pub passed : (t : Bool) (f : Refusal) (rest : Result (Unit {0}) Refusal) → ask t f rest ≡ Ok tt → (t ≡ true) × (rest ≡ Ok tt)
@@ -104,43 +96,20 @@ pub record Asked (b : Sheet) (ps : List ℕ) (n i bare : ℕ) : Type 0 where
   pub left : cover_answer b ps n ≡ along b (drop i ps) n (spare_answer b ps)
   pub counted : bare ≡ bare_on b (take i ps)
 
-module _ (b : Sheet) (ps : List ℕ) (n : ℕ) where
-  pub asked_none : is_net n ≡ true → Asked b ps n 0 0
-  asked_none k = record { left = ask_yes (is_net n) (refusal 4 n) (along b ps n (spare_answer b ps)) k; counted = refl }
+module _ (b : Sheet) (ps : List ℕ) (n i bare : ℕ) (l : i < length ps) (a : Asked b ps n i bare) where
+  next : cover_answer b ps n ≡ along b (get_or ps i 0 ∷ drop (i + 1) ps) n (spare_answer b ps)
+  next = a.left ∙ at_drop_more (λ qs. along b qs n (spare_answer b ps)) ps i 0 l
 
-  module _ (i bare : ℕ) (l : i < length ps) (a : Asked b ps n i bare) where
-    next : cover_answer b ps n ≡ along b (get_or ps i 0 ∷ drop (i + 1) ps) n (spare_answer b ps)
-    next = a.left ∙ at_drop_more (λ qs. along b qs n (spare_answer b ps)) ps i 0 l
+  past_shape : get_or ps i 0 < places b → cover_answer b ps n ≡ ask (b.area.opened (get_or ps i 0) n) (refusal 5 (get_or ps i 0)) (along b (drop (i + 1) ps) n (spare_answer b ps))
+  past_shape h = next ∙ ask_yes (ltb (get_or ps i 0) (places b)) (refusal 3 (get_or ps i 0)) _ (lt-ltb (get_or ps i 0) (places b) h)
 
-    pub asked_outside : places b ≤ get_or ps i 0 → cover_answer b ps n ≡ Err (refusal 3 (get_or ps i 0))
-    asked_outside h = next ∙ ask_no (ltb (get_or ps i 0) (places b)) (refusal 3 (get_or ps i 0)) _ (le-ltb (get_or ps i 0) (places b) h)
-
-    past_shape : get_or ps i 0 < places b → cover_answer b ps n ≡ ask (b.area.opened (get_or ps i 0) n) (refusal 5 (get_or ps i 0)) (along b (drop (i + 1) ps) n (spare_answer b ps))
-    past_shape h = next ∙ ask_yes (ltb (get_or ps i 0) (places b)) (refusal 3 (get_or ps i 0)) _ (lt-ltb (get_or ps i 0) (places b) h)
-
-    pub asked_closed : get_or ps i 0 < places b → b.area.opened (get_or ps i 0) n ≡ false → cover_answer b ps n ≡ Err (refusal 5 (get_or ps i 0))
-    asked_closed h o = past_shape h ∙ ask_no (b.area.opened (get_or ps i 0) n) (refusal 5 (get_or ps i 0)) (along b (drop (i + 1) ps) n (spare_answer b ps)) o
-
-    pub asked_more : get_or ps i 0 < places b → b.area.opened (get_or ps i 0) n ≡ true → (more : ℕ) → more ≡ min (bare + bare_at b (get_or ps i 0)) 4294967295 → Asked b ps n (i + 1) more
-    asked_more h o more e =
-        let taken : bare_entries b (take (i + 1) ps) ≡ bare_entries b (take i ps) + bare_at b (get_or ps i 0) = ap (bare_entries b) (take_more ps i 0 l) ∙ bare_push b (take i ps) (get_or ps i 0) in
-        record {
-          left = past_shape h ∙ ask_yes (b.area.opened (get_or ps i 0) n) (refusal 5 (get_or ps i 0)) (along b (drop (i + 1) ps) n (spare_answer b ps)) o;
-          counted = let c = a.counted in omega arith;
-        }
-
-  module _ (i bare : ℕ) (l : length ps ≤ i) (a : Asked b ps n i bare) where
-    last : cover_answer b ps n ≡ ask (leb bare (spare b)) (refusal 6 bare) (Ok tt)
-    last =
-        a.left
-        ∙ (at_drop_all (λ qs. along b qs n (spare_answer b ps)) ps i l
-        ∙ ap (λ (k : ℕ). ask (leb k (spare b)) (refusal 6 k) (Ok tt)) (sym (a.counted ∙ ap (bare_on b) (take_all i ps l))))
-
-    pub asked_refused : leb bare (spare b) ≡ false → cover_answer b ps n ≡ Err (refusal 6 bare)
-    asked_refused h = last ∙ ask_no (leb bare (spare b)) (refusal 6 bare) (Ok tt) h
-
-    pub asked_granted : leb bare (spare b) ≡ true → cover_answer b ps n ≡ Ok tt
-    asked_granted h = last ∙ ask_yes (leb bare (spare b)) (refusal 6 bare) (Ok tt) h
+  pub asked_more : get_or ps i 0 < places b → b.area.opened (get_or ps i 0) n ≡ true → (more : ℕ) → more ≡ min (bare + bare_at b (get_or ps i 0)) 4294967295 → Asked b ps n (i + 1) more
+  asked_more h o more e =
+      let taken : bare_entries b (take (i + 1) ps) ≡ bare_entries b (take i ps) + bare_at b (get_or ps i 0) = ap (bare_entries b) (take_more ps i 0 l) ∙ bare_push b (take i ps) (get_or ps i 0) in
+      record {
+        left = past_shape h ∙ ask_yes (b.area.opened (get_or ps i 0) n) (refusal 5 (get_or ps i 0)) (along b (drop (i + 1) ps) n (spare_answer b ps)) o;
+        counted = let c = a.counted in omega arith;
+      }
 
 bare_most : (b : Sheet) (p : ℕ) → bare_at b p ≤ 1
 bare_most b p = cond_both (eqb (b.metal.copper p) 0) 1 0 (λ x. x ≤ 1) (λ e. omega arith) (λ e. omega arith)
@@ -232,9 +201,6 @@ module _ (b : Sheet) (ps : List ℕ) (n : ℕ) (c : Coverable b ps n) where
           ap (tally m'.metal.copper) as_many ∙ tally_lay m.metal.copper m'.metal.copper (places m) (get_or ps i 0) n w.0.copper (net_some n c.net) within in
           ⊎_elim (λ (r : bare_entries b (drop i ps) ≤ spare m). inl (omega (arith, bare_still, to_come))) (λ (r : places m < m.metal.limit). inr (omega arith)) a.room;
     }
-
-  pub laying_all : (m : Sheet) (i : ℕ) → length ps ≤ i → Laying b m ps n i → Covered b m ps n
-  laying_all m i l a = subst (λ (qs : List ℕ). Covered b m qs n) (take_all i ps l) a.covered
 
 -- A PATH OF DISTINCT PLACES: the copper after it was laid
 abbrev laid_copper : (ℕ → ℕ) → List ℕ → ℕ → ℕ → ℕ

@@ -1,5 +1,5 @@
 -- How many places are not bare.
-use Rattle.std.proofs.Common.{◌≡◌, ℕ, zero, suc, ◌+◌, ◌<◌, ◌≤◌, true, false, cond, eqb, sym, refl, ap, ◌∙◌, ⊎_elim, not-suc-le-zero, add-zero, add-suc, add-one, arith}
+use Rattle.std.proofs.Common.{◌≡◌, ℕ, zero, suc, ◌+◌, ◌<◌, ◌≤◌, true, false, cond, eqb, sym, refl, ap, ◌∙◌, ⊎_elim, not-suc-le-zero, add-one, arith}
 use Rattle.std.proofs.lemmas.Bool.{cases_eq, cond_both, cond-true, cond-false, eq-eqb, ne_eqb}
 use Rattle.model.specs.Sheets.{tally, put}
 
@@ -30,12 +30,6 @@ pub tally_most : (f : ℕ → ℕ) (n : ℕ) → tally f n ≤ n
 unfolding tally
 tally_most f zero = omega arith
 tally_most f (suc n) = omega (arith, tally_most f n, one_most (f n))
-
--- each place more adds at most one
-pub tally_rise : (f : ℕ → ℕ) (n k : ℕ) → tally f (n + k) ≤ tally f n + k
-unfolding tally
-tally_rise f n zero = let e = ap (tally f) (add-zero n) in omega arith
-tally_rise f n (suc k) = let e = ap (tally f) (add-suc n k) in omega (arith, tally_rise f n k, one_most (f (n + k)))
 
 -- where all are bare
 pub tally_all_bare : (f : ℕ → ℕ) (n : ℕ) → ((p : ℕ) → p < n → f p ≡ 0) → tally f n ≡ 0

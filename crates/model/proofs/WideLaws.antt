@@ -1,24 +1,20 @@
 -- What a wide sheet keeps, and what a write to its list does.
 use Rattle.std.specs.List.{filter}
-use Rattle.std.proofs.Common.{◌≡◌, ℕ, zero, suc, ◌+◌, ◌-◌, ◌<◌, ◌≤◌, min, Bool, true, cond, eqb, ltb, leb, ◌⊎◌, List, [], ◌∷◌, length, get_or, take, drop, set, replicate, Ok, sym, refl, ap, ◌∙◌, ⊎_elim, add-one, arith, length-set, length-take, get_or-take}
-use Rattle.std.proofs.lemmas.List.{get_or-set_same, get_or-set_other, drop-set-lt, drop_at, length-append, length-replicate, length-drop, get_or_append_left, get_or-append_right, get_or-replicate, get_or-drop, get_or_past, ext_get_or}
+use Rattle.std.proofs.Common.{◌≡◌, ℕ, zero, suc, ◌+◌, ◌-◌, ◌<◌, ◌≤◌, min, Bool, true, eqb, ltb, leb, List, length, get_or, take, drop, Ok, sym, refl, ap, ◌∙◌, ⊎_elim, add-one, arith, length-take, get_or-take}
+use Rattle.std.proofs.lemmas.List.{length-drop, get_or-drop, ext_get_or}
 use Rattle.std.proofs.lemmas.List.Filters.{length-filter_more}
-use Rattle.std.proofs.lemmas.Bool.{cases_eq, cases_lt, lt-ltb, le-ltb, le-leb, cond-true, cond-false, cases_cond, ne_eqb}
+use Rattle.std.proofs.lemmas.Bool.{cases_eq, cases_lt, lt-ltb, le-leb, cond-true, cond-false, cases_cond, ne_eqb}
 use Rattle.std.proofs.lemmas.Bool.Decides.{nat_tests}
 use Rattle.grid.specs.declared.shape.Shape.{Shape}
 use Rattle.grid.specs.Places.{count_of}
 use Rattle.model.specs.Entries.{served}
-use Rattle.model.specs.Sheets.{Sound, Small, Tied, Wrote, StaysOpen, is_net, tally, spare, bare_at, Wiped, lay_answer, lift_answer, bar_answer, Held}
-use Rattle.model.specs.Wide.{wide_ground, wide_metal, wide_sheet, wide_rest, wide_held, zeroed, Made, Told}
-use Rattle.model.proofs.Calls.{lay_ok, lift_ok, bar_ok}
+use Rattle.model.specs.Sheets.{Sound, Small, Tied, tally, spare, bare_at, lay_answer, bar_answer}
+use Rattle.model.specs.Wide.{wide_ground, wide_metal, wide_sheet, wide_rest, Told}
+use Rattle.model.proofs.Calls.{lay_ok, bar_ok}
 use Rattle.model.proofs.Tallies.{one, bare_or_one, tally_none, tally_more, tally_most, tally_all_bare, tally_below}
 
 pub served_all : {A : Type 0} (s : Shape) (xs : List A) → count_of s ≤ length xs → served s xs ≡ count_of s
 served_all s xs h = cond-true (leb (count_of s) (length xs)) (count_of s) 0 (le-leb (count_of s) (length xs) h)
-
--- a list of the same length serves as many
-pub served_same : {A : Type 0} (s : Shape) (xs ys : List A) → length ys ≡ length xs → served s ys ≡ served s xs
-served_same s xs ys e = ap (λ n. cond (leb (count_of s) n) (count_of s) 0) e
 
 pub served_most : {A : Type 0} (s : Shape) (xs : List A) → (served s xs ≤ count_of s) × (served s xs ≤ length xs)
 served_most s xs = (grind (arith, nat_tests), grind (arith, nat_tests))
@@ -51,45 +47,6 @@ entries_small s xs h p =
     (λ (l : served s xs ≤ p). grind (arith, nat_tests))
     (cases_lt p (served s xs))
 
-held_same : (s : Shape) (loan : ℕ) (xs ys : List ℕ) → wide_rest s ys ≡ wide_rest s xs → wide_held s loan ys ≡ wide_held s loan xs
-held_same s loan xs ys e = ap {B = Held} (λ (zs : List ℕ). record { loans = loan ∷ []; rest = zs }) e
-
--- WRITES at a place that the list serves
-module _ (s : Shape) (xs : List ℕ) (p v : ℕ) (in' : p < served s xs) where
-  size : length (set xs p v) ≡ length xs
-  size = length-set xs p v
-
-  as_many : served s (set xs p v) ≡ served s xs
-  as_many = served_same s xs (set xs p v) size
-
-  here : get_or (set xs p v) p 0 ≡ v
-  here = get_or-set_same xs p v 0 (omega (arith, (served_most s xs).1))
-
-  pub wide_wrote : Wrote (wide_sheet s xs) (wide_sheet s (set xs p v)) p v
-  wide_wrote = record {
-    shape = refl;
-    limit = as_many;
-    copper = λ q.
-        ⊎_elim
-        (λ (same : q ≡ p). let e = as_many in let h = here in grind (arith, nat_tests))
-        (λ (other : q ≡ p → ⊥). let e = as_many in let h = get_or-set_other xs p q v 0 other in grind (arith, nat_tests))
-        (cases_eq q p);
-  }
-
-  -- a place that is given 0 or a net stays open to that net
-  pub wide_stays : (n : ℕ) → (v ≡ 0) ⊎ (v ≡ n) → StaysOpen (wide_sheet s xs) (wide_sheet s (set xs p v)) n
-  wide_stays n which q o =
-      let e = as_many in
-      ⊎_elim
-      (λ (same : q ≡ p).
-      let h = here in
-      ⊎_elim (λ (bare : v ≡ 0). grind (arith, nat_tests)) (λ (net : v ≡ n). grind (arith, nat_tests)) which)
-      (λ (other : q ≡ p → ⊥). let h = get_or-set_other xs p q v 0 other in grind (arith, nat_tests))
-      (cases_eq q p)
-
-  pub wide_kept : (loan : ℕ) → wide_held s loan (set xs p v) ≡ wide_held s loan xs
-  wide_kept loan = held_same s loan xs (set xs p v) (ap (λ (k : ℕ). drop k (set xs p v)) as_many ∙ drop-set-lt (served s xs) xs p v in')
-
 -- a place that the list serves has the spare that it needs
 pub wide_spare : (s : Shape) (xs : List ℕ) (p : ℕ) → p < served s xs → bare_at (wide_sheet s xs) p ≤ spare (wide_sheet s xs)
 wide_spare s xs p h =
@@ -102,25 +59,14 @@ wide_spare s xs p h =
 
 -- CALLS that are granted
 module _ (s : Shape) (xs : List ℕ) (p : ℕ) where
-  pub open_served : (n : ℕ) → (wide_ground s xs).opened p n ≡ true → p < served s xs
-  open_served n o = grind (arith, nat_tests)
-
-  -- a place that the list serves, or carries copper, is a place of the shape
+  -- a place that the list serves is a place of the shape
   served_inside : p < served s xs → p < count_of s
   served_inside h = omega (arith, (served_most s xs).0)
 
-  pub copper_served : ((wide_metal s xs).copper p ≡ 0 → ⊥) → p < served s xs
-  copper_served h = ⊎_elim (λ (l : p < served s xs). l) (λ (l : served s xs ≤ p). absurd (h (grind (arith, nat_tests)))) (cases_lt p (served s xs))
-
   pub wide_lays : (n : ℕ) → (wide_ground s xs).opened p n ≡ true → Ok tt ≡ lay_answer (wide_sheet s xs) p n
   wide_lays n o =
-      let l = open_served n o in
+      let l : p < served s xs = grind (arith, nat_tests) in
       sym (lay_ok (wide_sheet s xs) p n (served_inside l) ((wide_sound s xs).nets p n o) o (wide_spare s xs p l))
-
-  pub wide_lifts : is_net ((wide_metal s xs).copper p) ≡ true → Ok tt ≡ lift_answer (wide_sheet s xs) p
-  wide_lifts k =
-      let l = copper_served (λ e. grind (arith, nat_tests)) in
-      sym (lift_ok (wide_sheet s xs) p (served_inside l) k)
 
   pub wide_bars : p < served s xs → (wide_metal s xs).copper p ≡ 0 → Ok tt ≡ bar_answer (wide_sheet s xs) p
   wide_bars l z = sym (bar_ok (wide_sheet s xs) p (served_inside l) z (wide_spare s xs p l))
@@ -154,67 +100,6 @@ module _ (s : Shape) (xs : List ℕ) where
       let found : length (take needed (filter bare (take (served s xs) xs))) ≡ min needed n = length-take needed _ in
       let e : spare (wide_sheet s xs) ≡ n = omega (arith, spare_is) in
       rw (found, e) (grind (arith, nat_tests))
-
--- a list that starts with so many zeros
-module _ (n : ℕ) (xs : List ℕ) (in' : n ≤ length xs) where
-  pub length_zeroed : length (zeroed n xs) ≡ length xs
-  length_zeroed = simp (length-append, length-replicate, length-drop) (omega arith)
-
-  pub zeroed_below : (q : ℕ) → q < n → get_or (zeroed n xs) q 0 ≡ 0
-  zeroed_below q h = get_or_append_left (replicate n 0) (drop n xs) 0 q (simp length-replicate h) ∙ get_or-replicate n q 0 0 h
-
-  pub zeroed_past : (q : ℕ) → n ≤ q → get_or (zeroed n xs) q 0 ≡ get_or xs q 0
-  zeroed_past q h =
-      let e : n + (q - n) ≡ q = omega arith in
-      get_or-append_right (replicate n 0) (drop n xs) n q 0 (length-replicate n 0) h ∙ (get_or-drop n xs (q - n) 0 ∙ ap (λ (k : ℕ). get_or xs k 0) e)
-
-  pub drop_zeroed : drop n (zeroed n xs) ≡ drop n xs
-  drop_zeroed = drop_at (replicate n 0) (drop n xs) n (length-replicate n 0)
-
--- WIPING sets the entry of each place that the list serves to 0
-module _ (s : Shape) (xs : List ℕ) where
-  wiped_served : served s (zeroed (served s xs) xs) ≡ served s xs
-  wiped_served = served_same s xs (zeroed (served s xs) xs) (length_zeroed (served s xs) xs (served_most s xs).1)
-
-  pub wide_wiped : Wiped (wide_sheet s xs) (wide_sheet s (zeroed (served s xs) xs))
-  wide_wiped = record {
-    shape = refl;
-    limit = wiped_served;
-    copper = λ q.
-        let e = wiped_served in
-        ⊎_elim
-        (λ (h : q < served s xs). let z = zeroed_below (served s xs) xs (served_most s xs).1 q h in grind (arith, nat_tests))
-        (λ (h : served s xs ≤ q). grind (arith, nat_tests))
-        (cases_lt q (served s xs));
-  }
-
-  pub wiped_kept : (loan : ℕ) → wide_held s loan (zeroed (served s xs) xs) ≡ wide_held s loan xs
-  wiped_kept loan =
-      held_same s loan xs (zeroed (served s xs) xs)
-      (ap (λ (k : ℕ). drop k (zeroed (served s xs) xs)) wiped_served ∙ drop_zeroed (served s xs) xs (served_most s xs).1)
-
--- MAKING sets as many entries to 0 as there are places, or all that there are
-pub wide_made : (s : Shape) (xs : List ℕ) → Made s xs (zeroed (min (count_of s) (length xs)) xs)
-wide_made s xs =
-    let n = min (count_of s) (length xs) in
-    let long : n ≤ length xs = omega arith in
-    record {
-      size = length_zeroed n xs long;
-      places = λ p h.
-          ⊎_elim
-          (λ (k : p < n). zeroed_below n xs long p k)
-          (λ (k : n ≤ p). zeroed_past n xs long p k ∙ get_or_past xs p 0 (omega arith))
-          (cases_lt p n);
-      past = λ p h. zeroed_past n xs long p (omega arith);
-    }
-
--- so all is bare
-pub made_bare : (s : Shape) (xs ys : List ℕ) → Made s xs ys → (p : ℕ) → (wide_metal s ys).copper p ≡ 0
-made_bare s xs ys m p =
-    ⊎_elim
-    (λ (h : p < served s ys). wide_copper s ys p h ∙ m.places p (omega (arith, (served_most s ys).0)))
-    (λ (h : served s ys ≤ p). cond-false (ltb p (served s ys)) (get_or ys p 0) 0 (le-ltb p (served s ys) h))
-    (cases_lt p (served s ys))
 
 -- two lists that have the same limit and rest
 module _ (s : Shape) (xs ys : List ℕ) (e : served s ys ≡ served s xs) (r : wide_rest s ys ≡ wide_rest s xs) where

@@ -1,5 +1,5 @@
 -- Laying all places of a path, a list of places, for one net.
-use Rattle.std.specs.Prelude.{◌≡◌, ℕ, ◌+◌, ◌<◌, ◌≤◌, min, Bool, true, false, cond, ◌||◌, ◌↔◌, List, [], ◌∷◌, Ok, Err, Result, ◌==◌, nat_le, nat_lt}
+use Rattle.std.specs.Prelude.{◌≡◌, ℕ, ◌+◌, ◌<◌, ◌≤◌, min, Bool, true, false, if◌then◌else◌, ◌||◌, ◌↔◌, List, [], ◌∷◌, Ok, Err, Result, ◌==◌, nat_le, nat_lt}
 use Rattle.grid.specs.declared.fault.SheetFault.{SheetFault}
 use Rattle.grid.specs.Faults.{Refusal, refusal}
 use Rattle.model.specs.Sheets.{Sheet, StaysOpen, places, spare, ask, is_net, bare_at}
@@ -51,7 +51,7 @@ CoverIsExact b ps n = (cover_answer b ps n ≡ Ok tt) ↔ Coverable b ps n
 pub record Covered (b b' : Sheet) (ps : List ℕ) (n : ℕ) : Type 0 where
   pub shape : b'.area.shape ≡ b.area.shape
   pub limit : b'.metal.limit ≡ b.metal.limit
-  pub copper : (q : ℕ) → b'.metal.copper q ≡ cond (on q ps) n (b.metal.copper q)
+  pub copper : (q : ℕ) → b'.metal.copper q ≡ (if on q ps then n else b.metal.copper q)
   pub stays : StaysOpen b b' n
 
 -- COVER lays the whole path, or changes nothing

@@ -1,5 +1,5 @@
 -- What grounds and sheets mean, and what each call answers and leaves.
-use Rattle.std.specs.Prelude.{◌≡◌, ℕ, zero, suc, ◌+◌, ◌-◌, ◌<◌, ◌≤◌, Bool, true, cond, ◌&&◌, ◌⊎◌, List, Some, None, Ok, Err, Option, Result, ◌==◌, nat_le, nat_lt}
+use Rattle.std.specs.Prelude.{◌≡◌, ℕ, zero, suc, ◌+◌, ◌-◌, ◌<◌, ◌≤◌, Bool, true, if◌then◌else◌, ◌&&◌, ◌⊎◌, List, Some, None, Ok, Err, Option, Result, ◌==◌, nat_le, nat_lt}
 use Rattle.grid.specs.declared.shape.Shape.{Shape}
 use Rattle.grid.specs.declared.fault.SheetFault.{SheetFault}
 use Rattle.grid.specs.Faults.{Refusal, refusal, sheet_refusal}
@@ -38,7 +38,7 @@ places b = count_of b.area.shape
 -- how many of the first n places are not bare
 unfoldable pub tally : (ℕ → ℕ) → ℕ → ℕ
 tally f zero = 0
-tally f (suc n) = cond (f n == 0) 0 1 + tally f n
+tally f (suc n) = (if f n == 0 then 0 else 1) + tally f n
 
 -- the limit less the places that are not bare
 abbrev pub spare : Sheet → ℕ
@@ -65,15 +65,15 @@ answered (Err f) = Err (sheet_refusal f)
 
 -- a question, and what follows if it holds
 abbrev pub ask : Bool → Refusal → Result (Unit {0}) Refusal → Result (Unit {0}) Refusal
-ask b f rest = cond b rest (Err f)
+ask b f rest = if b then rest else Err f
 
 -- The questions: 3 place in the shape, 4 net, 5 place open, 6 spare enough, 7 place bare, 8 place carries a net.
 abbrev pub copper_answer : Sheet → ℕ → Option ℕ
-copper_answer b p = cond (nat_lt p (places b)) (Some (b.metal.copper p)) None
+copper_answer b p = if nat_lt p (places b) then Some (b.metal.copper p) else None
 
 -- how many bare places there are to cover where one place is given copper
 abbrev pub bare_at : Sheet → ℕ → ℕ
-bare_at b p = cond (b.metal.copper p == 0) 1 0
+bare_at b p = if b.metal.copper p == 0 then 1 else 0
 
 abbrev pub lay_answer : Sheet → ℕ → ℕ → Result (Unit {0}) Refusal
 lay_answer b p n =
@@ -90,7 +90,7 @@ bar_answer b p =
 
 -- the copper after v was put at p
 abbrev pub put : (ℕ → ℕ) → ℕ → ℕ → ℕ → ℕ
-put f p v q = cond (q == p) v (f q)
+put f p v q = if q == p then v else f q
 
 -- b' has v at p, and all other copper, the shape and the limit of b
 pub record Wrote (b b' : Sheet) (p v : ℕ) : Type 0 where

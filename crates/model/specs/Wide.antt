@@ -1,5 +1,5 @@
 -- A sheet as a list with one 16-bit number a place: 0 bare, 1 to 65,534 a net, 65,535 barred.
-use Rattle.std.specs.Prelude.{◌≡◌, ℕ, ◌+◌, ◌<◌, ◌≤◌, Bool, cond, ◌&&◌, ◌||◌, List, [], ◌∷◌, ◌++◌, length, drop, replicate, ◌==◌, nat_lt, slice_index, slice_set}
+use Rattle.std.specs.Prelude.{◌≡◌, ℕ, ◌+◌, ◌<◌, ◌≤◌, Bool, if◌then◌else◌, ◌&&◌, ◌||◌, List, [], ◌∷◌, ◌++◌, length, drop, replicate, ◌==◌, nat_lt, slice_index, slice_set}
 use Rattle.grid.specs.declared.shape.Shape.{Shape}
 use Rattle.grid.specs.Places.{count_of}
 use Rattle.model.specs.Entries.{served}
@@ -15,7 +15,7 @@ wide_ground s xs = record {
 -- the copper of a place is its entry, and the limit is the number of places; on a list that is too short all is bare and
 -- the limit is 0
 abbrev pub wide_metal : Shape → List ℕ → Metal
-wide_metal s xs = record { copper = λ p. cond (nat_lt p (served s xs)) (slice_index xs p) 0; limit = served s xs }
+wide_metal s xs = record { copper = λ p. if nat_lt p (served s xs) then slice_index xs p else 0; limit = served s xs }
 
 abbrev pub wide_sheet : Shape → List ℕ → Sheet
 wide_sheet s xs = sheet (wide_ground s xs) (wide_metal s xs)
@@ -30,7 +30,7 @@ wide_held s loan xs = record { loans = loan ∷ []; rest = wide_rest s xs }
 
 -- the list with v at p if a call was granted, and as it stood if it was refused
 abbrev pub written : Bool → List ℕ → ℕ → ℕ → List ℕ
-written granted xs p v = cond granted (slice_set xs p v) xs
+written granted xs p v = if granted then slice_set xs p v else xs
 
 -- the list with 0 for its first n entries, and the others as they stood
 abbrev pub zeroed : ℕ → List ℕ → List ℕ

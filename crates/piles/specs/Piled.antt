@@ -1,5 +1,5 @@
 -- Sheets under layers, and what a path that is laid through layers leaves in the copper of the sheet below.
-use Rattle.std.specs.Prelude.{◌≡◌, ℕ, cond, List, Ok, Err, Result}
+use Rattle.std.specs.Prelude.{◌≡◌, ℕ, if◌then◌else◌, List, Ok, Err, Result}
 use Rattle.grid.specs.declared.fault.SheetFault.{SheetFault}
 use Rattle.model.specs.Clear.{clear_ground}
 use Rattle.model.specs.Sheets.{Metal, Sheet, sheet}
@@ -16,5 +16,5 @@ apart xs b = sheet (apart_ground xs b.area) b.metal
 
 -- a grant leaves the net on each place of the path, and all other copper and the limit as they stood; a refusal leaves all copper as it stood
 abbrev pub CopperCovered : Metal → Metal → List ℕ → ℕ → Result (Unit {0}) SheetFault → Type 0
-CopperCovered m m' path n (Ok u) = (m'.limit ≡ m.limit) × ((q : ℕ) → m'.copper q ≡ cond (on q path) n (m.copper q))
+CopperCovered m m' path n (Ok u) = (m'.limit ≡ m.limit) × ((q : ℕ) → m'.copper q ≡ (if on q path then n else m.copper q))
 CopperCovered m m' path n (Err f) = m' ≡ m
