@@ -45,6 +45,7 @@ better t None o = o
 better t (Some a) None = Some a
 better t (Some a) (Some b) = Some (if t.less b a then b else a)
 
+-- a cost followed by a step that the tariff has; a front's `offer` says the same of the cost that it took last
 abbrev pub onward : {C : Type 0} → Rates C → Option C → Step → Option C
 onward t o k = if t.has k then (then) t o k else None
 
