@@ -1,12 +1,17 @@
 -- `least` is the least cost. Assumes nothing.
-use Rattle.std.proofs.Common.{◌≡◌, ℕ, zero, suc, ◌≤◌, Bool, true, false, cond, eqb, ◌⊎◌, List, [], ◌∷◌, length, Some, None, Option, sym, refl, ap, ◌∙◌, subst, subst₂, inl, inr, arith}
+use Rattle.std.proofs.Common.{◌≡◌, ◌↔◌, ℕ, zero, suc, ◌≤◌, Bool, true, false, cond, eqb, ◌⊎◌, List, [], ◌∷◌, length, Some, None, Option, sym, refl, ap, ◌∙◌, subst, subst₂, inl, inr, arith}
 use Rattle.std.proofs.lemmas.Bool.{eqb-true, eq-eqb}
 use Rattle.tariff.specs.Rates.{Rates, then}
-use Rattle.route.specs.Lawful.{Lawful}
+use Rattle.route.proofs.Lawful.{Lawful}
 use Rattle.route.specs.Hops.{Hop, Among}
-use Rattle.route.specs.Search.{Maze, Legal, Route, Least, LeastIsLeast, cost, end, better, onward, best, at_start, least}
+use Rattle.route.specs.Search.{Maze, Legal, Route, Least, cost, end, better, onward, best, at_start, least}
 use Rattle.route.specs.Queue.{Within}
 use Rattle.route.proofs.Order.{none_some, some_is, cond_some, cases_option, then_some, Leq, within_cond, leq_refl, leq_trans, leq_same, goes_on, costed}
+
+abbrev pub LeastIsLeast : Type 0 → Type 0
+LeastIsLeast C = (t : Rates C) (m : Maze) (limit p : ℕ) → Lawful t limit →
+    ((c : C) → least t m limit p ≡ Some c ↔ Least t m limit p c) ×
+    (least t m limit p ≡ None ↔ ((w : List Hop) → Route t.has m limit p w → ⊥))
 
 pick : {C : Type 0} {c : C} (b : Bool) (x y : C) → Some (cond b x y) ≡ Some c → (Some y ≡ Some c) ⊎ (Some x ≡ Some c)
 pick true x y e = inr e

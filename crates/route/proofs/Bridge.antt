@@ -9,7 +9,7 @@ use Rattle.pricing.specs.Prices.{Walk, Costs}
 use Rattle.tariff.specs.Rates.{Rates, charge, AllHad}
 use Rattle.route.specs.Hops.{Hop, hop}
 use Rattle.route.specs.Search.{Maze, Legal, Route, Least, cost, end, steps}
-use Rattle.route.specs.Wire.{visited}
+use Rattle.route.proofs.Traces.{visited}
 use Rattle.route.specs.Paths.{AllOpen, AllIn, last, LegalPath, LeastCost, maze}
 use Rattle.route.proofs.Around.{around_joined}
 use Rattle.route.proofs.Order.{length_steps}

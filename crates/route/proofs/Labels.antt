@@ -10,11 +10,12 @@ use Rattle.grid.specs.Steps.{kind, order, neighbour_of, Among as Listed}
 use Rattle.grid.proofs.Numbering.{count_most}
 use Rattle.model.specs.Sheets.{Ground, Sound}
 use Rattle.tariff.specs.Rates.{Rates, Laws, then}
-use Rattle.route.specs.Lawful.{Lawful}
+use Rattle.route.proofs.Lawful.{Lawful}
 use Rattle.route.specs.Hops.{Hop, hop, put_in, gather}
 use Rattle.route.specs.Listed.{On, NoneTwice}
 use Rattle.route.specs.Search.{Maze, onward, least}
-use Rattle.route.specs.Wire.{visited, trace, trace_back, on_back, back, is_cost, first, accounts, Numbered, Known, Goes, here, goes}
+use Rattle.route.proofs.Traces.{visited, trace, Numbered, Goes, here, goes}
+use Rattle.route.specs.Wire.{trace_back, on_back, back, is_cost, first, accounts, Known}
 use Rattle.route.specs.Paths.{LegalPath, LeastCost, maze, labels, label_of, wire_over, wire, LabelsAreLeast, ComesFrom, TracedBack, IsWire, WireIsWire}
 use Rattle.route.proofs.Order.{none_some, some_is, cond_some, then_some}
 use Rattle.route.proofs.Best.{least_is_least}

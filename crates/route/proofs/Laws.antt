@@ -3,7 +3,7 @@ use Rattle.std.proofs.Common.{◌≡◌, true, false, Some, sym, ap, subst, ⊎_
 use Rattle.std.proofs.lemmas.Bool.{both_ways, cases_Bool}
 use Rattle.grid.specs.declared.step.Step.{Step}
 use Rattle.tariff.specs.Rates.{Rates, Laws}
-use Rattle.route.specs.Lawful.{Lawful}
+use Rattle.route.proofs.Lawful.{Lawful}
 
 module _ {C : Type 0} {t : Rates C} (laws : Laws t) where
   one_way : (a b : C) → t.less a b ≡ true → t.less b a ≡ false

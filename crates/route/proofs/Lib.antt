@@ -1,3 +1,6 @@
+pub mod Lawful
+pub mod Traces
+pub mod States
 pub mod Order
 pub mod Holes
 pub mod Best

@@ -2,10 +2,11 @@
 use Rattle.std.proofs.Common.{◌≡◌, ℕ, Bool, true, false, cond, ◌&&◌, ◌≢◌, ◌⊎◌, List, [], ◌∷◌, ◌++◌, Some, None, Option, sym, refl, ap, ◌∙◌, subst, inl, inr}
 use Rattle.std.proofs.lemmas.Bool.{cases_eq, both_ways, cond-true, cond-false, and_parts, and_from, and_right}
 use Rattle.tariff.specs.Rates.{Rates}
-use Rattle.route.specs.Lawful.{Lawful}
+use Rattle.route.proofs.Lawful.{Lawful}
 use Rattle.route.specs.Hops.{Hop, Among}
 use Rattle.route.specs.Search.{Maze, better, onward}
-use Rattle.route.specs.Queue.{State, Within, Offers, Took, Offered, is_new, TookNone, TookMore}
+use Rattle.route.specs.Queue.{State, Within, Offers, Took, Offered, is_new}
+use Rattle.route.proofs.States.{TookNone, TookMore}
 use Rattle.route.proofs.Order.{cond_some, leq_refl}
 use Rattle.route.proofs.Best.{better_either, better_left, better_right}
 

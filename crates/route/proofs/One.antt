@@ -2,10 +2,10 @@
 use Rattle.std.proofs.Common.{◌≡◌, ℕ, true, ◌⊎◌, List, [], ◌∷◌, ◌++◌, sym, refl, ap, ◌∙◌, subst, ap₂, inl, inr}
 use Rattle.std.proofs.lemmas.Bool.{both_ways}
 use Rattle.tariff.specs.Rates.{Rates}
-use Rattle.route.specs.Lawful.{Lawful}
+use Rattle.route.proofs.Lawful.{Lawful}
 use Rattle.route.specs.Hops.{Hop, Among}
 use Rattle.route.specs.Search.{Maze, cost, end, steps}
-use Rattle.route.specs.Rule.{Rule, rule_of, Best, Accounts, First, Wire, WireIsOne}
+use Rattle.route.proofs.Rule.{Rule, rule_of, Best, Accounts, First, Wire, WireIsOne}
 use Rattle.route.proofs.Order.{then_some, Leq}
 use Rattle.route.proofs.Rule.{least_of}
 use Rattle.route.proofs.Wire.{nothing_low}

@@ -3,7 +3,7 @@ use Rattle.std.proofs.Common.{◌≡◌, ℕ, ◌<◌, ◌≤◌, Bool, true, fa
 use Rattle.std.proofs.lemmas.Bool.{both_ways, cases_Bool}
 use Rattle.grid.specs.declared.step.Step.{Step}
 use Rattle.tariff.specs.Rates.{Rates, then, AllHad}
-use Rattle.route.specs.Lawful.{Lawful}
+use Rattle.route.proofs.Lawful.{Lawful}
 use Rattle.route.specs.Hops.{Hop}
 use Rattle.route.specs.Queue.{Within}
 use Rattle.route.specs.Search.{Maze, Legal, steps, cost}

@@ -3,10 +3,11 @@ use Rattle.std.proofs.Common.{◌≡◌, ℕ, suc, ◌<◌, ◌≤◌, true, ◌
 use Rattle.std.proofs.lemmas.Bool.{both_ways, cases_eq}
 use Rattle.grid.specs.declared.step.Step.{Step}
 use Rattle.tariff.specs.Rates.{Rates, then}
-use Rattle.route.specs.Lawful.{Lawful}
+use Rattle.route.proofs.Lawful.{Lawful}
 use Rattle.route.specs.Hops.{Hop}
 use Rattle.route.specs.Search.{Maze, Legal, Route, Least, cost, end}
-use Rattle.route.specs.Queue.{State, Next, Symmetric, Within, Reached, Sound, MayTake, Offers, Took, TakenIsLeast, SoundIsKept, AllAreLabelled, FreshIsSound, SoundIsKnown}
+use Rattle.route.specs.Queue.{State, Within, Offers, Took}
+use Rattle.route.proofs.States.{Next, Symmetric, Reached, Sound, MayTake, TakenIsLeast, SoundIsKept, AllAreLabelled, FreshIsSound, SoundIsKnown}
 use Rattle.route.proofs.Order.{none_some, some_is, cases_option, then_some, Leq, leq_refl, leq_trans, lt_leq, grown, within_trans, goes_on, costed}
 
 -- some place waits at a cost of at most d, and is p, or goes on by a step at a cost of at most d

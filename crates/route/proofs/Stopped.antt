@@ -3,9 +3,10 @@ use Rattle.std.proofs.Common.{◌≡◌, ℕ, true, ◌⊎◌, Some, sym, ap, �
 use Rattle.std.proofs.lemmas.Bool.{cases_eq}
 use Rattle.grid.specs.declared.step.Step.{Step}
 use Rattle.tariff.specs.Rates.{Rates}
-use Rattle.route.specs.Lawful.{Lawful}
+use Rattle.route.proofs.Lawful.{Lawful}
 use Rattle.route.specs.Search.{Maze, Least}
-use Rattle.route.specs.Queue.{State, Sound, MayTake, Labelled}
+use Rattle.route.specs.Queue.{State}
+use Rattle.route.proofs.States.{Sound, MayTake, Labelled}
 use Rattle.route.specs.Wire.{Known}
 use Rattle.route.proofs.Order.{none_some, some_is}
 use Rattle.route.proofs.Queue.{least_taken, behind}

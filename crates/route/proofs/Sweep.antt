@@ -3,15 +3,23 @@ use Rattle.std.proofs.Common.{◌≡◌, ℕ, zero, suc, ◌+◌, ◌<◌, ◌�
 use mathlib.Core.Path.{fun_ext}
 use Rattle.std.proofs.lemmas.Bool.{cases_Bool, cond-false}
 use Rattle.tariff.specs.Rates.{Rates}
-use Rattle.route.specs.Lawful.{Lawful}
+use Rattle.route.proofs.Lawful.{Lawful}
 use Rattle.route.specs.Hops.{Hop}
 use Rattle.route.specs.Search.{Maze, Route, Least, best, better, at_start, least, cost}
-use Rattle.route.specs.Wire.{Numbered, visited}
-use Rattle.route.specs.Sweep.{row, label, sweep, swept, SweptIsShort, SweptIsLeast}
+use Rattle.route.proofs.Traces.{Numbered, visited}
+use Rattle.route.specs.Sweep.{row, label, sweep, swept}
 use Rattle.route.proofs.Order.{none_some, cases_option, Leq, leq_trans}
 use Rattle.route.proofs.Best.{least_is, is_least, found, routed}
 use Rattle.route.proofs.Wire.{simple, visited_free, length_visited}
 use Rattle.route.proofs.Holes.{holes}
+
+-- after k sweeps each label is the least cost over at most k steps
+abbrev pub SweptIsShort : Type 0 → Type 0
+SweptIsShort C = (t : Rates C) (m : Maze) (n k p : ℕ) → Numbered m n → get_or (swept t m n k) p None ≡ least t m k p
+
+-- after as many sweeps as there are places, it is the least cost
+abbrev pub SweptIsLeast : Type 0 → Type 0
+SweptIsLeast C = (t : Rates C) (m : Maze) (limit n p : ℕ) → Lawful t limit → n ≤ limit → Numbered m n → get_or (swept t m n n) p None ≡ least t m limit p
 
 row_in : {A : Type 0} (f : ℕ → A) (d : A) (n i j : ℕ) → j < n → get_or (row f i n) j d ≡ f (i + j)
 unfolding row

@@ -3,12 +3,13 @@ use Rattle.std.proofs.Common.{◌≡◌, ℕ, zero, suc, ◌+◌, ◌<◌, ◌�
 use Rattle.std.proofs.lemmas.Bool.{both_ways, cases_eq, cases_Bool, eq-eqb, ne_eqb, cond-true, cond-false, and_from, and_parts, not-true, not_from_false}
 use Rattle.grid.specs.declared.step.Step.{Step}
 use Rattle.tariff.specs.Rates.{Rates, then, charge}
-use Rattle.route.specs.Lawful.{Lawful}
+use Rattle.route.proofs.Lawful.{Lawful}
 use Rattle.route.specs.Hops.{Hop, Among}
 use Rattle.route.specs.Search.{Maze, Legal, Route, Least, cost, end, steps, onward, least}
-use Rattle.route.specs.Queue.{Next}
-use Rattle.route.specs.Wire.{is_cost, first, accounts, back, hang, trace, Numbered, TraceIsLeast, Known, TraceIsSame, LeastIsKnown, visited, Goes, here, goes, TraceGoes}
-use Rattle.route.specs.Rule.{lower, rule_of, Accounts, First, Wire, TraceIsWire}
+use Rattle.route.proofs.States.{Next}
+use Rattle.route.specs.Wire.{is_cost, first, accounts, back, Known}
+use Rattle.route.proofs.Traces.{hang, trace, Numbered, TraceIsLeast, TraceIsSame, LeastIsKnown, visited, Goes, TraceGoes, here, goes}
+use Rattle.route.proofs.Rule.{lower, rule_of, Accounts, First, Wire, TraceIsWire}
 use Rattle.route.proofs.Rule.{best_of, least_of}
 use Rattle.route.specs.Listed.{On, NoneTwice}
 use Rattle.route.proofs.Holes.{in?, holes}

@@ -1,9 +1,7 @@
 pub mod Hops
 pub mod Listed
-pub mod Lawful
 pub mod Search
 pub mod Queue
 pub mod Wire
-pub mod Rule
 pub mod Sweep
 pub mod Paths

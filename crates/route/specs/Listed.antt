@@ -1,4 +1,5 @@
--- Places in a list.
+-- Places in a list, as facts: a wire's proof goes by cases on where a place stands. `on` and `Distinct` of model's `Paths` say
+-- the same as tests, which the copper of a laid path is computed by.
 use Rattle.std.specs.Prelude.{◌≡◌, ℕ, ◌⊎◌, List, [], ◌∷◌}
 
 -- p stands in the list

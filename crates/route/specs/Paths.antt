@@ -18,6 +18,7 @@ abbrev pub AllOpen : Ground → ℕ → List ℕ → Type 0
 AllOpen g n [] = Unit {0}
 AllOpen g n (p ∷ ps) = (g.opened p n ≡ true) × AllOpen g n ps
 
+-- the steps of the list are had; a tariff's `AllHad`, said of the steps alone, since a legal path asks no costs
 abbrev pub AllIn : (Step → Bool) → List Step → Type 0
 AllIn has [] = Unit {0}
 AllIn has (k ∷ ks) = (has k ≡ true) × AllIn has ks

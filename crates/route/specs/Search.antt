@@ -1,8 +1,7 @@
 -- Legal paths through a maze, their costs, and the least of them.
-use Rattle.std.specs.Prelude.{◌≡◌, ℕ, zero, suc, ◌≤◌, Bool, true, false, if◌then◌else◌, ◌↔◌, List, [], ◌∷◌, length, Some, None, Option, ◌==◌}
+use Rattle.std.specs.Prelude.{◌≡◌, ℕ, zero, suc, ◌≤◌, Bool, true, false, if◌then◌else◌, List, [], ◌∷◌, length, Some, None, Option, ◌==◌}
 use Rattle.grid.specs.declared.step.Step.{Step}
 use Rattle.tariff.specs.Rates.{Rates, then, charge}
-use Rattle.route.specs.Lawful.{Lawful}
 use Rattle.route.specs.Hops.{Hop, Among}
 
 -- `around p` are the places next to p, in the order in which they are tried; `free p`: the net at hand may pass p
@@ -46,6 +45,7 @@ better t None o = o
 better t (Some a) None = Some a
 better t (Some a) (Some b) = Some (if t.less b a then b else a)
 
+-- a cost followed by a step that the tariff has; a front's `offer` says the same of the cost that it took last
 abbrev pub onward : {C : Type 0} → Rates C → Option C → Step → Option C
 onward t o k = if t.has k then (then) t o k else None
 
@@ -59,8 +59,3 @@ at_start t m p = if p == m.start then Some t.nothing else None
 unfoldable pub least : {C : Type 0} → Rates C → Maze → ℕ → ℕ → Option C
 least t m zero p = if m.free p then at_start t m p else None
 least t m (suc n) p = if m.free p then better t (at_start t m p) (best t (least t m n) (m.around p)) else None
-
-abbrev pub LeastIsLeast : Type 0 → Type 0
-LeastIsLeast C = (t : Rates C) (m : Maze) (limit p : ℕ) → Lawful t limit →
-    ((c : C) → least t m limit p ≡ Some c ↔ Least t m limit p c) ×
-    (least t m limit p ≡ None ↔ ((w : List Hop) → Route t.has m limit p w → ⊥))

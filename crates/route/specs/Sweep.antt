@@ -1,9 +1,7 @@
 -- The labels of all places at once: swept as often as there are places.
-use Rattle.std.specs.Prelude.{◌≡◌, ℕ, zero, suc, ◌≤◌, if◌then◌else◌, List, [], ◌∷◌, None, Option, slice_index_or}
+use Rattle.std.specs.Prelude.{ℕ, zero, suc, if◌then◌else◌, List, [], ◌∷◌, None, Option, slice_index_or}
 use Rattle.tariff.specs.Rates.{Rates}
-use Rattle.route.specs.Lawful.{Lawful}
-use Rattle.route.specs.Search.{Maze, best, better, at_start, least}
-use Rattle.route.specs.Wire.{Numbered}
+use Rattle.route.specs.Search.{Maze, best, better, at_start}
 
 -- f i, f (i + 1), ..: n of them
 unfoldable pub row : {A : Type 0} → (ℕ → A) → ℕ → ℕ → List A
@@ -21,11 +19,3 @@ sweep t m n ls = row (label t m (λ q. slice_index_or ls q None)) 0 n
 unfoldable pub swept : {C : Type 0} → Rates C → Maze → ℕ → ℕ → List (Option C)
 swept t m n zero = sweep t m n []
 swept t m n (suc k) = sweep t m n (swept t m n k)
-
--- after k sweeps each label is the least cost over at most k steps
-abbrev pub SweptIsShort : Type 0 → Type 0
-SweptIsShort C = (t : Rates C) (m : Maze) (n k p : ℕ) → Numbered m n → slice_index_or (swept t m n k) p None ≡ least t m k p
-
--- after as many sweeps as there are places, it is the least cost
-abbrev pub SweptIsLeast : Type 0 → Type 0
-SweptIsLeast C = (t : Rates C) (m : Maze) (limit n p : ℕ) → Lawful t limit → n ≤ limit → Numbered m n → slice_index_or (swept t m n n) p None ≡ least t m limit p

@@ -1,8 +1,6 @@
 -- What the questions of a search tell, and how its labels end up in the caller's list.
-use Rattle.std.proofs.Common.{◌≡◌, ℕ, zero, suc, ◌-◌, ◌≤◌, Bool, true, false, cond, ltb, leb, List, [], ◌∷◌, ◌++◌, length, get_or, take, drop, Some, None, Ok, Err, Option, Result, sym, refl, ap, ◌∙◌, subst, arith}
-use borrow.Rule.Slice.PartMut.{post_of}
-use Rattle.std.proofs.lemmas.List.{same_lists, get_or_default, drop_at, length-take-le}
-use Rattle.std.proofs.lemmas.Slice.{drop-put_mid}
+use Rattle.std.proofs.Common.{◌≡◌, ℕ, zero, suc, ◌≤◌, Bool, true, false, cond, ltb, leb, List, [], ◌∷◌, ◌++◌, length, get_or, take, drop, Some, None, Ok, Err, Option, Result, sym, refl, ap, ◌∙◌, subst, arith}
+use Rattle.std.proofs.lemmas.List.{same_lists, get_or_default, length-take-le}
 use Rattle.std.proofs.lemmas.Bool.{leb-true}
 use Rattle.grid.specs.Faults.{Refusal}
 use Rattle.grid.specs.Places.{count_of}
@@ -64,15 +62,8 @@ pub search_allowed : {C : Type 0} (t : Rates C) (g : Ground) (q : Queue C) (net 
 search_allowed t g q net start goal entries h = start_allowed t g q net start entries (ask (g.opened goal net) 5 goal ∷ []) h
 
 -- how long the front part of the labels is
-pub front_size : {C : Type 0} (n k : ℕ) (xs : List (Option C)) → n ≤ length xs → k ≡ n → length (take (k - 0) xs) ≡ n
-front_size n k xs enough e =
-    let m : k - 0 ≡ n = omega arith in
-    length-take-le (k - 0) xs (omega arith) ∙ m
-
--- what stands behind the front part
-pub behind : {C : Type 0} (n k : ℕ) (xs ys : List (Option C)) → k ≡ n → length ys ≡ n → post_of 0 k xs ≡ drop n xs
-behind n k xs ys e size =
-    sym (drop_at ys (post_of 0 k xs) n size) ∙ drop-put_mid 0 k xs ys n (omega arith) (omega arith) (omega arith)
+pub front_size : {C : Type 0} (n k : ℕ) (xs : List (Option C)) → n ≤ length xs → k ≡ n → length (take k xs) ≡ n
+front_size n k xs enough e = length-take-le k xs (omega arith) ∙ e
 
 length_row : {A : Type 0} (f : ℕ → A) (i n : ℕ) → length (row f i n) ≡ n
 unfolding row
@@ -97,9 +88,9 @@ whole_labels {C} {t} laws g sound n start ys size h =
 
 -- and in the caller's list
 pub whole_list : {C : Type 0} {t : Rates C} → Laws t → (g : Ground) → Sound g → (n start k : ℕ) (xs ys : List (Option C)) → k ≡ count_of g.shape → length ys ≡ count_of g.shape →
-    ((p : ℕ) → get_or ys p None ≡ least t (maze g n start) 2097152 p) → ys ++ post_of 0 k xs ≡ whole_wave t g n start xs
+    ((p : ℕ) → get_or ys p None ≡ least t (maze g n start) 2097152 p) → ys ++ drop k xs ≡ whole_wave t g n start xs
 whole_list {t} laws g sound n start k xs ys e size h =
-    ap (λ l. l ++ post_of 0 k xs) (whole_labels laws g sound n start ys size h) ∙ ap (λ l. labels t g n start ++ l) (behind (count_of g.shape) k xs ys e size)
+    ap (λ l. l ++ drop k xs) (whole_labels laws g sound n start ys size h) ∙ ap (λ m. labels t g n start ++ drop m xs) e
 
 -- what a refused search leaves, by whether it was refused before it began
 pub leaves_whole : {C F : Type 0} (t : Rates C) (g : Ground) (n start : ℕ) (early : Option Refusal) (xs ys : List (Option C)) (f f' : F) → early ≡ None → ys ≡ whole_wave t g n start xs →

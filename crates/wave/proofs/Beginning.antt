@@ -7,7 +7,7 @@ use Rattle.tariff.specs.Rates.{Rates, Laws}
 use Rattle.front.specs.Queue.{Queue, Starts, Started}
 use Rattle.model.specs.Sheets.{Ground, Sound}
 use Rattle.route.specs.Paths.{maze}
-use Rattle.route.specs.Queue.{Fresh}
+use Rattle.route.proofs.States.{Fresh}
 use Rattle.route.proofs.Order.{none_some, some_is}
 use Rattle.wave.specs.Offers.{state_of}
 use Rattle.wave.specs.Questions.{serves}

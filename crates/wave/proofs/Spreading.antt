@@ -11,7 +11,7 @@ use Rattle.model.specs.Sheets.{Ground, Sound as Solid}
 use Rattle.route.specs.Hops.{Hop, around}
 use Rattle.route.specs.Paths.{maze}
 use Rattle.route.specs.Search.{Maze, Legal, end, least}
-use Rattle.route.specs.Queue.{Sound, Fresh, MayTake, Labelled}
+use Rattle.route.proofs.States.{Sound, Fresh, MayTake, Labelled}
 use Rattle.route.proofs.Around.{around_back}
 use Rattle.route.proofs.Order.{none_some, cases_option}
 use Rattle.route.proofs.Best.{is_least, is_none}

@@ -9,9 +9,9 @@ use grid::{Shape, Step, directions};
 use sheet::Ground;
 use tariff::Tariff;
 
-// The board as offers find it: which places are open to the net, and a label for each place. The front stands beside it: a
-// board that held the front and the list by `&mut` would have to promise, with each method, that it holds the same ones and
-// leaves all but the front as it was.
+// The board as offers find it: which places are open to the net, and a label for each place. The front stands beside it, with
+// its inner order as the condition that its calls have: a board that held the front and the list by `&mut` would have to
+// promise, with each method, that it holds the same ones and leaves all but the front as it was.
 #[derive(Drop)]
 pub(crate) struct Board<'a, G, T: Tariff> {
     pub(crate) area: &'a G,

@@ -99,7 +99,7 @@ pub fn wave<G: Ground, T: Tariff, F: Front<T>>(
 {
     check_wave::<G, T, F>(area, net, start, labels.len(), front)?;
     let places = area.shape().places() as usize;
-    let board = &mut labels[0..places];
+    let board = &mut labels[..places];
     Ok(spread::<G, T, F>(area, net, start, None, board, front))
 }
 
@@ -131,7 +131,7 @@ pub fn search<G: Ground, T: Tariff, F: Front<T>>(
 {
     check_search::<G, T, F>(area, connection, labels.len(), front)?;
     let places = area.shape().places() as usize;
-    let board = &mut labels[0..places];
+    let board = &mut labels[..places];
     let _ = spread::<G, T, F>(
         area,
         connection.net,

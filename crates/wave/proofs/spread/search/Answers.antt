@@ -1,4 +1,4 @@
-use Rattle.std.proofs.Common.{◌≡◌, ◌-◌, length, ap, ◌∙◌, arith}
+use Rattle.std.proofs.Common.{◌≡◌, length, ap, ◌∙◌}
 use Rattle.grid.specs.Places.{count_of}
 use Rattle.wave.proofs.Asking.{granted, unless_none, search_allowed, front_size}
 use Rattle.wave.proofs.Reaching.{finished}
@@ -31,7 +31,6 @@ returns g c =
     let a = search_allowed g.T.Tariff.rates m (g.F.Front.view c.args.front.now) c.args.connection.net c.args.connection.start c.args.connection.goal (length c.args.labels.now) o in
     let e : c.places-places.result ≡ count_of m.shape = c.places-places.ensures.is ∙ ap count_of c.shape.ensures in
     let size : length c.spread.new.labels ≡ count_of m.shape = c.spread.auto.labels ∙ front_size _ _ _ a.enough e in
-    let k : c.places-places.result - 0 ≡ count_of m.shape = omega arith in
-    let (answer, after) = finished laws m sound c.args.connection.net c.args.connection.start c.args.connection.goal _ c.args.labels.now c.spread.new.labels c.args.front.now c.spread.new.front (c.places-places.result - 0) c.spread.result
-    c.label_at.result c.ok_or.result o k a.enough size c.spread.ensures c.label_at.ensures c.ok_or.ensures.value in
+    let (answer, after) = finished laws m sound c.args.connection.net c.args.connection.start c.args.connection.goal _ c.args.labels.now c.spread.new.labels c.args.front.now c.spread.new.front c.places-places.result c.spread.result
+    c.label_at.result c.ok_or.result o e a.enough size c.spread.ensures c.label_at.ensures c.ok_or.ensures.value in
     record { answer = answer ∙ unless_none _ _ o; least = labels_are_least laws; wire = wire_is_wire laws; after = after }

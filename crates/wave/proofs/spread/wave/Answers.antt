@@ -1,4 +1,4 @@
-use Rattle.std.proofs.Common.{◌≡◌, ◌-◌, length, Ok, ap, ◌∙◌, arith}
+use Rattle.std.proofs.Common.{◌≡◌, length, Ok, ap, ◌∙◌}
 use Rattle.grid.specs.Places.{count_of}
 use Rattle.wave.specs.Spread.{labelled}
 use Rattle.wave.proofs.Asking.{granted, unless_none, wave_allowed, front_size, whole_labels, whole_list}
@@ -28,10 +28,9 @@ returns g c =
     let a = wave_allowed g.T.Tariff.rates m (g.F.Front.view c.args.front.now) c.args.net c.args.start (length c.args.labels.now) o in
     let e : c.places-places.result ≡ count_of m.shape = c.places-places.ensures.is ∙ ap count_of c.shape.ensures in
     let size : length c.spread.new.labels ≡ count_of m.shape = c.spread.auto.labels ∙ front_size _ _ _ a.enough e in
-    let k : c.places-places.result - 0 ≡ count_of m.shape = omega arith in
     let all = c.spread.ensures.whole tt in
     record {
       answer = ap Ok (c.spread.ensures.count ∙ ap labelled (whole_labels laws m sound c.args.net c.args.start _ size all)) ∙ unless_none _ _ o;
       least = labels_are_least laws;
-      after = whole_list laws m sound c.args.net c.args.start (c.places-places.result - 0) c.args.labels.now c.spread.new.labels k size all;
+      after = whole_list laws m sound c.args.net c.args.start c.places-places.result c.args.labels.now c.spread.new.labels e size all;
     }
