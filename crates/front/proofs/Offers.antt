@@ -2,7 +2,7 @@
 use Rattle.std.proofs.Common.{◌≡◌, ℕ, ◌<◌, true, Some, None, Option, sym, refl, ap, ◌∙◌, ⊎_elim}
 use Rattle.std.proofs.lemmas.Bool.{cases_eq, cases_Bool, cond-true, cond-false}
 use Rattle.grid.specs.declared.step.Step.{Step}
-use Rattle.tariff.specs.Rates.{Rates, Laws, then}
+use Rattle.tariff.specs.Rates.{Rates, Laws, followed}
 use Rattle.front.specs.Queue.{Queue, Offered, offer, smaller}
 use Rattle.front.specs.Places.{Waits, Offers}
 use Rattle.front.proofs.Changes.{changed_at, changed_off}
@@ -34,7 +34,7 @@ module _ {C : Type 0} where
 
   module _ {t : Rates C} where
     -- a step that the tariff lacks is refused, so what the step makes of the cost taken last is the offer
-    pub offer_is : Laws t → (l : Option C) (k : Step) → offer t l k ≡ then t l k
+    pub offer_is : Laws t → (l : Option C) (k : Step) → offer t l k ≡ followed t l k
     offer_is laws None k = refl
     offer_is laws (Some c) k = ⊎_elim
         (λ h. cond-true (t.has k) (t.after c k) None h)

@@ -8,7 +8,7 @@ use Rattle.grid.specs.declared.step.Step.{Step}
 use Rattle.grid.specs.Places.{count_of}
 use Rattle.grid.specs.Steps.{step_between}
 use Rattle.grid.proofs.Between.{between_joins}
-use Rattle.tariff.specs.Rates.{Rates, then, charge, AllHad}
+use Rattle.tariff.specs.Rates.{Rates, followed, charge, AllHad}
 use Rattle.pricing.specs.declared.leg.Leg.{Leg}
 use Rattle.pricing.specs.declared.fault.StepFault.{StepFault}
 use Rattle.pricing.specs.declared.fault.StepFault.TheVariants.{Lacked}
@@ -87,11 +87,11 @@ module _ {C : Type 0} (t : Rates C) (s : Shape) where
       let x = gone n p q c (λ z. price_from t s (n + 1) q z qs) d f in
       let k = x.step.by in
       let j = (between_joins s p q (step_between s p q) refl k).0 x.step.between in
-      let r = rest_from qs (n + 1) q x.cost d (k ∷ done) j.to (ap (λ o. then t o k) e ∙ x.step.made) x.on in
+      let r = rest_from qs (n + 1) q x.cost d (k ∷ done) j.to (ap (λ o. followed t o k) e ∙ x.step.made) x.on in
       record { steps = k ∷ r.steps; walk = (j, r.walk); had = (x.step.had, r.had); charged = r.charged }
 
   -- no refused cost is mended by more steps
-  before : (k : Step) (o : Option C) (d : C) → then t o k ≡ Some d → (c : C) × (o ≡ Some c)
+  before : (k : Step) (o : Option C) (d : C) → followed t o k ≡ Some d → (c : C) × (o ≡ Some c)
   before k None d e = cc
   before k (Some c) d e = (c, refl)
 
@@ -107,7 +107,7 @@ module _ {C : Type 0} (t : Rates C) (s : Shape) where
   price_of (q ∷ qs) n p c d done [] e w a f = absurd w
   price_of (q ∷ qs) n p c d done (k ∷ ks) e w a f =
       let (b, g) = earlier ks (k ∷ done) d f in
-      let made : t.after c k ≡ Some b = sym (ap (λ o. then t o k) e) ∙ g in
+      let made : t.after c k ≡ Some b = sym (ap (λ o. followed t o k) e) ∙ g in
       let x : Stepped p q c b = record { by = k; between = (between_joins s p q (step_between s p q) refl k).1 w.0; had = a.0; made = made } in
       came n p q c b (λ z. price_from t s (n + 1) q z qs) x ∙ price_of qs (n + 1) q b d (k ∷ done) ks g w.1 a.1 f
 

@@ -1,7 +1,7 @@
 -- `least` is the least cost. Assumes nothing.
 use Rattle.std.proofs.Common.{◌≡◌, ◌↔◌, ℕ, zero, suc, ◌≤◌, Bool, true, false, cond, eqb, ◌⊎◌, List, [], ◌∷◌, length, Some, None, Option, sym, refl, ap, ◌∙◌, subst, subst₂, inl, inr, arith}
 use Rattle.std.proofs.lemmas.Bool.{eqb-true, eq-eqb}
-use Rattle.tariff.specs.Rates.{Rates, then}
+use Rattle.tariff.specs.Rates.{Rates, followed}
 use Rattle.route.proofs.Lawful.{Lawful}
 use Rattle.route.specs.Hops.{Hop, Among}
 use Rattle.route.specs.Search.{Maze, Legal, Route, Least, cost, end, better, onward, best, at_start, least}
@@ -23,15 +23,15 @@ better_either t (Some x) None e = inl e
 better_either t (Some x) (Some y) e = pick (t.less y x) y x e
 
 pub best_found : {C : Type 0} {c : C} (t : Rates C) (f : ℕ → Option C) (hs : List Hop) → best t f hs ≡ Some c →
-    (h : Hop) × Among h hs × (t.has h.by ≡ true) × (then t (f h.to) h.by ≡ Some c)
+    (h : Hop) × Among h hs × (t.has h.by ≡ true) × (followed t (f h.to) h.by ≡ Some c)
 best_found t f [] e = none_some e
 best_found {c} t f (h ∷ hs) e = go (best_found t f hs) (better_either t (onward t (f h.to) h.by) (best t f hs) e)
   where
     Found : List Hop → Type 0
-    Found hs = (x : Hop) × Among x hs × (t.has x.by ≡ true) × (then t (f x.to) x.by ≡ Some c)
+    Found hs = (x : Hop) × Among x hs × (t.has x.by ≡ true) × (followed t (f x.to) x.by ≡ Some c)
 
     go : (best t f hs ≡ Some c → Found hs) → (onward t (f h.to) h.by ≡ Some c) ⊎ (best t f hs ≡ Some c) → Found (h ∷ hs)
-    go ih (inl e) = let p = cond_some (t.has h.by) (then t (f h.to) h.by) e in (h, inl refl, p.0, p.1)
+    go ih (inl e) = let p = cond_some (t.has h.by) (followed t (f h.to) h.by) e in (h, inl refl, p.0, p.1)
     go ih (inr e) = let p = ih e in (p.0, inr p.1, p.2, p.3)
 
 module _ {C : Type 0} {t : Rates C} {limit : ℕ} (L : Lawful t limit) where
@@ -59,7 +59,7 @@ module _ {C : Type 0} {t : Rates C} {limit : ℕ} (L : Lawful t limit) where
       go true e = record { value = y; is = refl; low = le }
       go false e = record { value = x; is = refl; low = leq_trans L x y d e le }
 
-  pub best_within : {d : C} (f : ℕ → Option C) (hs : List Hop) (h : Hop) → Among h hs → t.has h.by ≡ true → Within t (then t (f h.to) h.by) d → Within t (best t f hs) d
+  pub best_within : {d : C} (f : ℕ → Option C) (hs : List Hop) (h : Hop) → Among h hs → t.has h.by ≡ true → Within t (followed t (f h.to) h.by) d → Within t (best t f hs) d
   best_within f [] h i has w = absurd i
   best_within {d} f (x ∷ hs) h (inl e) has w =
       better_left (onward t (f x.to) x.by) (best t f hs)
@@ -96,7 +96,7 @@ module _ {C : Type 0} {t : Rates C} {limit : ℕ} (L : Lawful t limit) where
                 ends = refl;
                 short = omega arith;
               },
-              ap (λ o. then t o h.by) costs ∙ e3,
+              ap (λ o. followed t o h.by) costs ∙ e3,
             )
 
     start_within : (d : C) → Some t.nothing ≡ Some d → Within t (at_start t m m.start) d
@@ -114,9 +114,9 @@ module _ {C : Type 0} {t : Rates C} {limit : ℕ} (L : Lawful t limit) where
         let (u, r, costs) = found n (end m w) ih.is in
         let ushort : length u ≤ n = r.short in
         let (x, e2) = goes_on L m u ih.value h.by r.legal costs l.1 (omega arith) in
-        let one : Within t (then t (least t m n (end m w)) h.by) d = record {
+        let one : Within t (followed t (least t m n (end m w)) h.by) d = record {
           value = x;
-          is = ap (λ o. then t o h.by) ih.is ∙ e2;
+          is = ap (λ o. followed t o h.by) ih.is ∙ e2;
           low = L.keeps ih.value d0 x d h.by ih.low e2 e1;
         } in
         within_cond (m.free h.to) l.0

@@ -9,7 +9,7 @@ use Rattle.grid.specs.Places.{count_of}
 use Rattle.grid.specs.Steps.{kind, order, neighbour_of, Among as Listed}
 use Rattle.grid.proofs.Numbering.{count_most}
 use Rattle.model.specs.Sheets.{Ground, Sound}
-use Rattle.tariff.specs.Rates.{Rates, Laws, then}
+use Rattle.tariff.specs.Rates.{Rates, Laws, followed}
 use Rattle.route.proofs.Lawful.{Lawful}
 use Rattle.route.specs.Hops.{Hop, hop, put_in, gather}
 use Rattle.route.specs.Listed.{On, NoneTwice}
@@ -169,7 +169,7 @@ module _ {C : Type 0} {t : Rates C} (laws : Laws t) where
     comes_from p c h e a =
         let x = first_of g.shape p f c order h a in
         let made = is_cost_true (onward t (f h.to) h.by) c x.is in
-        let (has, o) = cond_some (t.has h.by) (then t (f h.to) h.by) made in
+        let (has, o) = cond_some (t.has h.by) (followed t (f h.to) h.by) made in
         let (b, eb, af) = then_some t (f h.to) h.by o in
         record {
           before = x.before;
@@ -188,7 +188,7 @@ module _ {C : Type 0} {t : Rates C} (laws : Laws t) where
           first = λ d r i y.
               let same : y.here ≡ c = some_is (sym ((label_cost p y.here).1 y.here_least) ∙ e) in
               let on : onward t (f r) (kind d) ≡ Some c =
-              cond-true (t.has (kind d)) (then t (f r) (kind d)) None y.had ∙ ap (λ z. then t z (kind d)) ((label_cost r y.there).1 y.there_least) ∙ y.equal ∙ ap Some same in
+              cond-true (t.has (kind d)) (followed t (f r) (kind d)) None y.had ∙ ap (λ z. followed t z (kind d)) ((label_cost r y.there).1 y.there_least) ∙ y.equal ∙ ap Some same in
               both_ways _ (x.others d r i y.leads) (ap (λ z. is_cost t z c) on ∙ is_cost_self c);
         }
 
@@ -211,7 +211,7 @@ module _ {C : Type 0} {t : Rates C} (laws : Laws t) where
         let y = from.accounts in
         let x = first_of g.shape p f c order h a in
         let made = is_cost_true (onward t (f h.to) h.by) c x.is in
-        let (has, o) = cond_some (t.has h.by) (then t (f h.to) h.by) made in
+        let (has, o) = cond_some (t.has h.by) (followed t (f h.to) h.by) made in
         let (d, ed, af) = then_some t (f h.to) h.by o in
         let low : t.less b.cost c ≡ true = subst (λ z. t.less z c ≡ true) (some_is (sym ed ∙ b.label)) (laws.grows d c h.by af) in
         let less-all : (q : ℕ) → On q ps → (z : C) × (f q ≡ Some z) × (t.less z c ≡ true) =

@@ -2,7 +2,7 @@
 use Rattle.std.proofs.Common.{◌≡◌, ℕ, ◌<◌, ◌≤◌, Bool, true, false, cond, ◌⊎◌, List, [], ◌∷◌, length, is_some, Some, None, Option, refl, subst, inl, inr, arith}
 use Rattle.std.proofs.lemmas.Bool.{both_ways, cases_Bool}
 use Rattle.grid.specs.declared.step.Step.{Step}
-use Rattle.tariff.specs.Rates.{Rates, then, AllHad}
+use Rattle.tariff.specs.Rates.{Rates, followed, AllHad}
 use Rattle.route.proofs.Lawful.{Lawful}
 use Rattle.route.specs.Hops.{Hop}
 use Rattle.route.specs.Queue.{Within}
@@ -27,7 +27,7 @@ pub cases_option : {C : Type 0} (o : Option C) → (o ≡ None) ⊎ ((c : C) × 
 cases_option None = inl refl
 cases_option (Some c) = inr (c, refl)
 
-pub then_some : {C : Type 0} {c : C} (t : Rates C) (o : Option C) (k : Step) → then t o k ≡ Some c → (d : C) × (o ≡ Some d) × (t.after d k ≡ Some c)
+pub then_some : {C : Type 0} {c : C} (t : Rates C) (o : Option C) (k : Step) → followed t o k ≡ Some c → (d : C) × (o ≡ Some d) × (t.after d k ≡ Some c)
 then_some t None k e = none_some e
 then_some t (Some d) k e = (d, refl, e)
 
@@ -83,7 +83,7 @@ module _ {C : Type 0} {t : Rates C} {limit : ℕ} (L : Lawful t limit) where
   pub goes_on : (m : Maze) (w : List Hop) (c : C) (k : Step) → Legal t.has m w → cost t w ≡ Some c → t.has k ≡ true → length w < limit → (x : C) × (t.after c k ≡ Some x)
   goes_on m w c k legal costs has room =
       let ok = L.lasts (k ∷ steps w) (has, all_had t m w legal) (let e = length_steps w in omega arith) in
-      some_of (t.after c k) (subst (λ o. is_some (then t o k) ≡ true) costs ok)
+      some_of (t.after c k) (subst (λ o. is_some (followed t o k) ≡ true) costs ok)
 
   pub costed : (m : Maze) (w : List Hop) → Legal t.has m w → length w ≤ limit → (c : C) × (cost t w ≡ Some c)
   costed m w legal short = some_of (cost t w) (L.lasts (steps w) (all_had t m w legal) (let e = length_steps w in omega arith))

@@ -2,7 +2,7 @@
 use Rattle.std.proofs.Common.{◌≡◌, ℕ, suc, ◌<◌, ◌≤◌, true, ◌⊎◌, List, [], ◌∷◌, length, Some, None, sym, refl, ap, ◌∙◌, subst, subst₂, inl, inr, arith}
 use Rattle.std.proofs.lemmas.Bool.{both_ways, cases_eq}
 use Rattle.grid.specs.declared.step.Step.{Step}
-use Rattle.tariff.specs.Rates.{Rates, then}
+use Rattle.tariff.specs.Rates.{Rates, followed}
 use Rattle.route.proofs.Lawful.{Lawful}
 use Rattle.route.specs.Hops.{Hop}
 use Rattle.route.specs.Search.{Maze, Legal, Route, Least, cost, end}
@@ -104,7 +104,7 @@ module _ {C : Type 0} {t : Rates C} {m : Maze} {limit : ℕ} {s : State C} {p : 
           legal = (o.free, o.has, subst (λ z. Next m q o.by z) (sym r.ends) (sym-m p q o.by o.among), r.legal);
           ends = refl;
           short = omega (arith, more);
-          costs = ap (λ z. then t z o.by) r.costs ∙ o.made;
+          costs = ap (λ z. followed t z o.by) r.costs ∙ o.made;
         }
 
     pub kept : Sound t m limit s'

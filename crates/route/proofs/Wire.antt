@@ -2,7 +2,7 @@
 use Rattle.std.proofs.Common.{◌≡◌, ℕ, zero, suc, ◌+◌, ◌<◌, ◌≤◌, Bool, true, false, cond, not, eqb, ◌≢◌, ◌⊎◌, List, [], ◌∷◌, ◌++◌, length, Some, None, Option, sym, refl, ap, ◌∙◌, subst, ap₂, subst₂, inl, inr, arith}
 use Rattle.std.proofs.lemmas.Bool.{both_ways, cases_eq, cases_Bool, eq-eqb, ne_eqb, cond-true, cond-false, and_from, and_parts, not-true, not_from_false}
 use Rattle.grid.specs.declared.step.Step.{Step}
-use Rattle.tariff.specs.Rates.{Rates, then, charge}
+use Rattle.tariff.specs.Rates.{Rates, followed, charge}
 use Rattle.route.proofs.Lawful.{Lawful}
 use Rattle.route.specs.Hops.{Hop, Among}
 use Rattle.route.specs.Search.{Maze, Legal, Route, Least, cost, end, steps, onward, least}
@@ -78,7 +78,7 @@ module _ {C : Type 0} {t : Rates C} {limit : ℕ} (L : Lawful t limit) (m : Maze
             apart = (n, s.apart);
             short = omega arith;
             value = x;
-            costs = ap (λ o. then t o h.by) s.costs ∙ ex;
+            costs = ap (λ o. followed t o h.by) s.costs ∙ ex;
             low = L.keeps s.value d0 x d h.by s.low ex e1;
           }
 
@@ -129,7 +129,7 @@ module _ {C : Type 0} {t : Rates C} {limit : ℕ} (L : Lawful t limit) (m : Maze
             legal = (lg.0, lg.1, subst (λ z. Next m h.to h.by z) (sym ue) lg.2, ul);
             ends = ends;
             short = omega arith;
-          }) (ap (λ o. then t o h.by) uc ∙ ex) in
+          }) (ap (λ o. followed t o h.by) uc ∙ ex) in
           record {
             from = end m w;
             by = h.by;
@@ -218,11 +218,11 @@ module _ {C : Type 0} {t : Rates C} {limit : ℕ} (L : Lawful t limit) where
         let (b, eb, lb) = least_of L m y.to a.path a.best in
         let (u, ul, ue, us, uc) = brief L m y.to b num lb in
         let (x, ex) = goes_on L m u b y.by ul uc a.has us in
-        let ey : charge t (y.by ∷ steps a.path) ≡ Some x = ap (λ o. then t o y.by) eb ∙ ex in
+        let ey : charge t (y.by ∷ steps a.path) ≡ Some x = ap (λ o. followed t o y.by) eb ∙ ex in
         let xc : x ≡ c = L.same x c (subst₂ (λ v z. lower t v z ≡ false) ey ek a.tie.0) (subst₂ (λ v z. lower t v z ≡ false) ek ey a.tie.1) in
         let made : t.after b y.by ≡ Some c = ex ∙ ap Some xc in
         let eq : f y.to ≡ Some b = K.closed p y.to y.by b c e lb a.has made in
-        cond-true (t.has y.by) (then t (f y.to) y.by) None a.has ∙ ap (λ o. then t o y.by) eq ∙ made
+        cond-true (t.has y.by) (followed t (f y.to) y.by) None a.has ∙ ap (λ o. followed t o y.by) eq ∙ made
 
     -- the step back from a place that is not the start
     record Back (p : ℕ) (c : C) : Type 0 where
@@ -237,9 +237,9 @@ module _ {C : Type 0} {t : Rates C} {limit : ℕ} (L : Lawful t limit) where
     steps_back p c e ne =
         let k = comes L m p c num (K.exact p c e) ne in
         let eq = K.closed p k.from k.by k.was c e k.least k.has k.made in
-        let on : onward t (f k.from) k.by ≡ Some c = cond-true (t.has k.by) (then t (f k.from) k.by) None k.has ∙ ap (λ o. then t o k.by) eq ∙ k.made in
+        let on : onward t (f k.from) k.by ≡ Some c = cond-true (t.has k.by) (followed t (f k.from) k.by) None k.has ∙ ap (λ o. followed t o k.by) eq ∙ k.made in
         let F = first_found f c (m.around p) (record { by = k.by; to = k.from }) k.next on in
-        let (has, e3) = cond_some (t.has F.hop.by) (then t (f F.hop.to) F.hop.by) F.on in
+        let (has, e3) = cond_some (t.has F.hop.by) (followed t (f F.hop.to) F.hop.by) F.on in
         let (b, eb, made) = then_some t (f F.hop.to) F.hop.by e3 in
         record {
           found = F;
@@ -281,7 +281,7 @@ module _ {C : Type 0} {t : Rates C} {limit : ℕ} (L : Lawful t limit) where
             let hop : Hop = record { by = h.by; to = p } in
             let short : length w ≤ n = r.short in
             let legal : Legal t.has m (hop ∷ w) = (free_of p c e, B.has, subst (λ z. Next m p h.by z) (sym r.ends) F.among, r.legal) in
-            let comes-to : cost t (hop ∷ w) ≡ Some c = ap (λ o. then t o h.by) costs ∙ B.made in
+            let comes-to : cost t (hop ∷ w) ≡ Some c = ap (λ o. followed t o h.by) costs ∙ B.made in
             subst (λ o. Traced (suc n) p c (hang p o (trace t m f n))) (sym B.goes-back) (
               record { legal = legal; ends = refl; short = omega arith },
               comes-to,
@@ -346,10 +346,10 @@ first_gives {C} {t} L f c (x ∷ hs) h e = go (first_gives L f c hs h) (cases_Bo
 shared : {C : Type 0} {t : Rates C} {limit : ℕ} (L : Lawful t limit) (m : Maze) (f g : ℕ → Option C) → Known t m limit f → Known t m limit g →
     (p : ℕ) (c : C) (h : Hop) → g p ≡ Some c → onward t (f h.to) h.by ≡ Some c → (b : C) × (f h.to ≡ Some b) × (g h.to ≡ Some b) × (onward t (g h.to) h.by ≡ Some c)
 shared {C} {t} L m f g K G p c h e on =
-    let (has, e1) = cond_some (t.has h.by) (then t (f h.to) h.by) on in
+    let (has, e1) = cond_some (t.has h.by) (followed t (f h.to) h.by) on in
     let (b, eb, made) = then_some t (f h.to) h.by e1 in
     let gb = G.closed p h.to h.by b c e (K.exact h.to b eb) has made in
-    (b, eb, gb, cond-true (t.has h.by) (then t (g h.to) h.by) None has ∙ ap (λ o. then t o h.by) gb ∙ made)
+    (b, eb, gb, cond-true (t.has h.by) (followed t (g h.to) h.by) None has ∙ ap (λ o. followed t o h.by) gb ∙ made)
 
 module _ {C : Type 0} {t : Rates C} {limit : ℕ} (L : Lawful t limit) (m : Maze) (f g : ℕ → Option C) (K : Known t m limit f) (G : Known t m limit g) where
   first_same : (p : ℕ) (c : C) → f p ≡ Some c → g p ≡ Some c → (hs : List Hop) → first t f c hs ≡ first t g c hs

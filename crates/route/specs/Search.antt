@@ -1,7 +1,7 @@
 -- Legal paths through a maze, their costs, and the least of them.
 use Rattle.std.specs.Prelude.{◌≡◌, ℕ, zero, suc, ◌≤◌, Bool, true, false, if◌then◌else◌, List, [], ◌∷◌, length, Some, None, Option, ◌==◌}
 use Rattle.grid.specs.declared.step.Step.{Step}
-use Rattle.tariff.specs.Rates.{Rates, then, charge}
+use Rattle.tariff.specs.Rates.{Rates, followed, charge}
 use Rattle.route.specs.Hops.{Hop, Among}
 
 -- `around p` are the places next to p, in the order in which they are tried; `free p`: the net at hand may pass p
@@ -47,7 +47,7 @@ better t (Some a) (Some b) = Some (if t.less b a then b else a)
 
 -- a cost followed by a step that the tariff has; a front's `offer` says the same of the cost that it took last
 abbrev pub onward : {C : Type 0} → Rates C → Option C → Step → Option C
-onward t o k = if t.has k then (then) t o k else None
+onward t o k = if t.has k then followed t o k else None
 
 abbrev pub best : {C : Type 0} → Rates C → (ℕ → Option C) → List Hop → Option C
 best t f [] = None

@@ -18,14 +18,14 @@ pub record Rates (C : Type 0) : Type 0 where
   pub span : ℕ
 
 -- one step more; what was refused stays refused
-abbrev pub then : {C : Type 0} → Rates C → Option C → Step → Option C
-then t None k = None
-then t (Some c) k = t.after c k
+abbrev pub followed : {C : Type 0} → Rates C → Option C → Step → Option C
+followed t None k = None
+followed t (Some c) k = t.after c k
 
 -- nothing, followed by a row of steps that has its last step first
 abbrev pub charge : {C : Type 0} → Rates C → List Step → Option C
 charge t [] = Some t.nothing
-charge t (k ∷ ks) = then t (charge t ks) k
+charge t (k ∷ ks) = followed t (charge t ks) k
 
 -- the tariff has each step of the row
 abbrev pub AllHad : {C : Type 0} → Rates C → List Step → Type 0
