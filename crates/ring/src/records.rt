@@ -1,4 +1,5 @@
-// What a ring does to its records.
+// What a ring does to its records. That a place has one stands in each contract: a place is any number of 32 bits, and the lent
+// list alone says which have records.
 ghost use Rattle.std.specs.Prelude.{◌≡◌, ℕ, ◌+◌, ◌<◌, ◌≤◌, false, length, Some};
 ghost use Rattle.rows.specs.Waiting.{layout, vouched};
 ghost use Rattle.front.specs.Places.{room};

@@ -1,8 +1,8 @@
-use Rattle.std.proofs.Common.{length, sym, subst, ◌∙◌}
+use Rattle.std.proofs.Common.{length, Some, sym, subst, ◌∙◌}
 use Rattle.front.specs.Places.{room}
 use Rattle.sift.specs.Layouts.{layout, filled, priced, Sifted}
 use Rattle.sift.proofs.Offering.{decrease_hole, decreased}
-use Rattle.heap.proofs.Changing.{may_rise, risen, waits_after}
+use Rattle.heap.proofs.Changing.{may_rise, risen, changed_after}
 use Rattle.heap.proofs.Heap.decrease.Goals as goal
 
 pub sift_up-requires : goal.sift_up-requires
@@ -25,6 +25,6 @@ returns-clause-change g c =
     let zs = c.sift_up.new.self.list.now in
     let i = c.position_of-position.result in
     let r = risen xs c.set_cost.new.list p x c.set_cost.ensures c.set_cost.auto.list s.count i zs e.sifted in
-    waits_after s c.sift_up.new.self p s.count e.count e.last (e.records ∙ c.set_cost.auto.list) x
-    (decreased g.met.T.Tariff.laws (layout xs) (room (length xs)) s.count p x c.requires.order c.requires.present c.requires.less (layout zs)
-    (subst (λ j. Sifted t (filled (priced (layout xs) p x) j p) (layout zs) (room (length xs)) s.count) (sym c.position_of-position.ensures) r))
+    let w = decreased g.met.T.Tariff.laws (layout xs) (room (length xs)) s.count p x c.requires.order c.requires.present c.requires.less (layout zs)
+    (subst (λ j. Sifted t (filled (priced (layout xs) p x) j p) (layout zs) (room (length xs)) s.count) (sym c.position_of-position.ensures) r) in
+    changed_after s c.sift_up.new.self p s.count e.count e.last (e.records ∙ c.set_cost.auto.list) (Some x) w.here w.others

@@ -1,8 +1,8 @@
-use Rattle.std.proofs.Common.{◌-◌, length, sym, subst}
+use Rattle.std.proofs.Common.{◌-◌, length, None, sym, subst}
 use Rattle.front.specs.Places.{room}
 use Rattle.sift.specs.Layouts.{layout, filled, HoleDown, Sifted}
 use Rattle.sift.proofs.Removing.{first_waits, moved_hole, removed}
-use Rattle.heap.proofs.Changing.{gone_after}
+use Rattle.heap.proofs.Changing.{changed_after}
 use Rattle.heap.proofs.Heap.remove_first.Goals as goal
 
 pub sift_down-requires : goal.sift_down-requires
@@ -31,7 +31,6 @@ returns-then-count-gt1-clause-change g c =
     let xs = s.list.now in
     let s' = c.sift_down.new.self in
     let e = c.sift_down.ensures in
-    rw (← c.at-first.ensures.place)
-    (gone_after s s' ((layout xs).slot 1) (s.count - 1) e.count e.last e.records
-    (removed (layout xs) (room (length xs)) s.count c.requires.order c.if-count-gt1.true (layout s'.list.now)
-    (subst (λ q. Sifted g.T.Tariff.rates (filled (layout xs) 1 q) (layout s'.list.now) (room (length xs)) (s.count - 1)) (sym c.at-last.ensures.place) e.sifted)))
+    let w = removed (layout xs) (room (length xs)) s.count c.requires.order c.if-count-gt1.true (layout s'.list.now)
+    (subst (λ q. Sifted g.T.Tariff.rates (filled (layout xs) 1 q) (layout s'.list.now) (room (length xs)) (s.count - 1)) (sym c.at-last.ensures.place) e.sifted) in
+    rw (← c.at-first.ensures.place) (changed_after s s' ((layout xs).slot 1) (s.count - 1) e.count e.last e.records None w.gone w.others)

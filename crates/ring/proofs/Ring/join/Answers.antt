@@ -1,6 +1,6 @@
-use Rattle.std.proofs.Common.{◌≡◌, ◌-◌, length, sym, refl, ap, arith, rules}
+use Rattle.std.proofs.Common.{◌≡◌, length, sym, arith, rules}
 use Rattle.rows.proofs.Keeping.{head_inside}
-use Rattle.rows.proofs.Filing.{joined_awaits, joined_ordered}
+use Rattle.rows.proofs.Filing.{joined}
 use Rattle.ring.proofs.Ring.join.Goals as goal
 
 pub link-requires-clause-head : goal.link-requires-clause-head
@@ -9,22 +9,11 @@ link-requires-clause-head g c p e =
     let len : length c.enter-self.new.list ≡ length c.args.self.now.list.now = search rules in
     omega arith
 
-pub returns-clause-order : goal.returns-clause-order
-returns-clause-order g c =
+pub returns : goal.returns
+returns g c =
     let s = c.args.self.now in
     let len : length c.link.new.list ≡ length s.list.now = search rules in
     let heads : length s.heads ≡ 32 = search rules in
-    joined_ordered g.T.Tariff.rates s.list.now s.touched s.rows s.heads s.last c.requires.order heads c.args.place c.args.cost c.requires.free c.requires.near
-    c.enter-self.new.list c.enter-self.result c.enter-self.ensures c.row_of-row.result (sym c.row_of-row.ensures) c.link.new.list c.link.ensures len
-
-pub returns-clause-change : goal.returns-clause-change
-returns-clause-change g c =
-    let s = c.args.self.now in
-    let len : length c.link.new.list ≡ length s.list.now = search rules in
-    let heads : length s.heads ≡ 32 = search rules in
-    record {
-      waiting = joined_awaits g.T.Tariff.rates s.list.now s.touched s.rows s.heads s.last c.requires.order heads c.args.place c.args.cost c.requires.free c.requires.near
-          c.enter-self.new.list c.enter-self.result c.enter-self.ensures c.row_of-row.result (sym c.row_of-row.ensures) c.link.new.list c.link.ensures;
-      last = refl;
-      serves = record { served = ap (λ k. k - 1) len; spans = refl };
-    }
+    let f = joined g.T.Tariff.rates s.list.now s.touched s.rows s.heads s.last c.requires.order heads c.args.place c.args.cost c.requires.free c.requires.near
+    c.enter-self.new.list c.enter-self.result c.enter-self.ensures c.row_of-row.result (sym c.row_of-row.ensures) c.link.new.list c.link.ensures len in
+    record { order = f.order; change = f.change }

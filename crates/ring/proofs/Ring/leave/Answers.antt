@@ -1,7 +1,7 @@
-use Rattle.std.proofs.Common.{◌≡◌, ◌-◌, length, set, sym, refl, ap, subst, arith, rules}
+use Rattle.std.proofs.Common.{◌≡◌, length, set, sym, refl, subst, arith, rules}
 use Rattle.rows.specs.Rows.{Ordered}
 use Rattle.rows.proofs.Keeping.{filed_inside, next_inside, back_inside}
-use Rattle.rows.proofs.Filing.{left_awaits, left_ordered}
+use Rattle.rows.proofs.Filing.{left}
 use Rattle.ring.proofs.Ring.leave.Goals as goal
 
 pub unlink-requires-clause-next : goal.unlink-requires-clause-next
@@ -20,27 +20,18 @@ set_cost-requires g c =
     let len : length c.unlink.new.list ≡ length c.args.self.now.list.now = search rules in
     omega arith
 
-pub returns-clause-order : goal.returns-clause-order
-returns-clause-order g c =
+pub returns : goal.returns
+returns g c =
     let t = g.T.Tariff.rates in
     let s = c.args.self.now in
     let zs = c.set_cost.new.list in
     let r = c.args.row in
     let len : length zs ≡ length s.list.now = search rules in
     let heads : length s.heads ≡ 32 = search rules in
-    subst (λ v. Ordered t zs s.touched s.rows (set s.heads r v) s.last) (sym c.unlink.ensures.head)
-    (left_ordered t s.list.now s.touched s.rows s.heads s.last c.requires.order heads c.args.place r c.requires.filed
-    c.unlink.new.list zs c.unlink.ensures.records c.set_cost.ensures len)
-
-pub returns-clause-change : goal.returns-clause-change
-returns-clause-change g c =
-    let s = c.args.self.now in
-    let zs = c.set_cost.new.list in
-    let len : length zs ≡ length s.list.now = search rules in
-    let heads : length s.heads ≡ 32 = search rules in
+    let f = left t s.list.now s.touched s.rows s.heads s.last c.requires.order heads c.args.place r c.requires.filed
+    c.unlink.new.list zs c.unlink.ensures.records c.set_cost.ensures len in
     record {
-      waiting = left_awaits g.T.Tariff.rates s.list.now s.touched s.rows s.heads s.last c.requires.order heads c.args.place c.args.row c.requires.filed
-          c.unlink.new.list zs c.unlink.ensures.records c.set_cost.ensures;
-      last = refl;
-      serves = record { served = ap (λ k. k - 1) len; spans = refl };
+      order = subst (λ v. Ordered t zs s.touched s.rows (set s.heads r v) s.last) (sym c.unlink.ensures.head) f.order;
+      change = f.change;
+      rows = refl;
     }
