@@ -1,6 +1,6 @@
 -- What a wide sheet keeps, and what a write to its list does.
 use Rattle.std.specs.List.{filter}
-use Rattle.std.proofs.Common.{◌≡◌, ℕ, zero, suc, ◌+◌, ◌-◌, ◌<◌, ◌≤◌, min, Bool, true, eqb, ltb, leb, List, length, get_or, take, drop, Ok, sym, refl, ap, ◌∙◌, ⊎_elim, add-one, arith, length-take, get_or-take}
+use Rattle.std.proofs.Common.{◌≡◌, ℕ, zero, suc, ◌+◌, ◌-◌, ◌<◌, ◌≤◌, Bool, true, eqb, ltb, leb, List, length, get_or, take, drop, Ok, sym, refl, ap, ◌∙◌, ⊎_elim, add-one, arith, get_or-take}
 use Rattle.std.proofs.lemmas.List.{length-drop, get_or-drop, ext_get_or}
 use Rattle.std.proofs.lemmas.List.Filters.{length-filter_more}
 use Rattle.std.proofs.lemmas.Bool.{cases_eq, cases_lt, lt-ltb, le-leb, cond-true, cond-false, cases_cond, ne_eqb}
@@ -92,14 +92,8 @@ module _ (s : Shape) (xs : List ℕ) where
       rw add-one at (tally_more (wide_metal s xs).copper i) ∙ ap (λ (v : ℕ). one v + tally (wide_metal s xs).copper i) (wide_copper s xs i (omega arith)) in
       omega (arith, bare_or_one (get_or xs i 0))
 
-  -- so it covers those needed if as many are found
-  pub spare_counted : (needed : ℕ) → eqb (length (take needed (filter bare (take (served s xs) xs)))) needed ≡ leb needed (spare (wide_sheet s xs))
-  spare_counted needed =
-      let n = length (filter bare (take (served s xs) xs)) in
-      let all = bare_first (served s xs) (omega arith) in
-      let found : length (take needed (filter bare (take (served s xs) xs))) ≡ min needed n = length-take needed _ in
-      let e : spare (wide_sheet s xs) ≡ n = omega (arith, spare_is) in
-      rw (found, e) (grind (arith, nat_tests))
+  pub spare_bare : spare (wide_sheet s xs) ≡ length (filter bare (take (served s xs) xs))
+  spare_bare = let all = bare_first (served s xs) (omega arith) in omega (arith, spare_is)
 
 -- two lists that have the same limit and rest
 module _ (s : Shape) (xs ys : List ℕ) (e : served s ys ≡ served s xs) (r : wide_rest s ys ≡ wide_rest s xs) where
