@@ -8,7 +8,7 @@ use sift::HeapRecord;
 
 impl<'a, C: Copy> Heap<'a, C> {
     // The place at a position.
-    pub fn slot_at(&self, position: usize) -> u32
+    pub(super) fn slot_at(&self, position: usize) -> u32
         requires { position < length self.now.list.now }
         ensures { (layout self.now.list.now).slot position ≡ result }
     {
@@ -16,7 +16,7 @@ impl<'a, C: Copy> Heap<'a, C> {
     }
 
     // The position that a place names.
-    pub fn position_of(&self, place: u32) -> usize
+    pub(super) fn position_of(&self, place: u32) -> usize
         requires { place + 1 < length self.now.list.now }
         ensures { (layout self.now.list.now).at place ≡ result }
     {
@@ -24,7 +24,7 @@ impl<'a, C: Copy> Heap<'a, C> {
     }
 
     // The cost of a place.
-    pub fn cost_of(&self, place: u32) -> C
+    pub(super) fn cost_of(&self, place: u32) -> C
         requires { place + 1 < length self.now.list.now }
         ensures { (layout self.now.list.now).cost place ≡ Some result }
     {
@@ -32,7 +32,7 @@ impl<'a, C: Copy> Heap<'a, C> {
     }
 
     // The place at a position, and its cost.
-    pub fn at(&self, position: usize) -> Taken<C>
+    pub(super) fn at(&self, position: usize) -> Taken<C>
         requires position { position < length self.now.list.now }
         requires place { (layout self.now.list.now).slot position + 1 < length self.now.list.now }
         ensures place { (layout self.now.list.now).slot position ≡ result.place }

@@ -28,7 +28,7 @@ impl<'a, C: Copy> Heap<'a, C> {
     }
 
     // Sifts a place up from a hole, to where its parent's cost is not greater.
-    pub fn sift_up<T: Tariff<Cost = C>>(&mut self, from: usize, place: u32, cost: C)
+    pub(super) fn sift_up<T: Tariff<Cost = C>>(&mut self, from: usize, place: u32, cost: C)
         requires { MayRise T.Tariff.rates self.old from place cost }
         ensures { Fills T.Tariff.rates self.old self.new from place }
     {
@@ -69,7 +69,7 @@ impl<'a, C: Copy> Heap<'a, C> {
     }
 
     // Sifts a place down from a hole at the first position, to where no child's cost is less.
-    pub fn sift_down<T: Tariff<Cost = C>>(&mut self, place: u32, cost: C)
+    pub(super) fn sift_down<T: Tariff<Cost = C>>(&mut self, place: u32, cost: C)
         requires { MaySink T.Tariff.rates self.old 1 place cost }
         ensures { Fills T.Tariff.rates self.old self.new 1 place }
     {

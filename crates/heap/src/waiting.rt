@@ -22,7 +22,7 @@ impl<'a, C: Copy> Heap<'a, C> {
     }
 
     // Inserts a place that does not wait.
-    pub fn insert<T: Tariff<Cost = C>>(&mut self, place: u32, cost: C)
+    pub(super) fn insert<T: Tariff<Cost = C>>(&mut self, place: u32, cost: C)
         requires order { InOrder T.Tariff.rates self.old }
         requires inside { place < room (length self.old.list.now) }
         requires absent { waits (layout self.old.list.now) self.old.count place ≡ false }
@@ -50,7 +50,7 @@ impl<'a, C: Copy> Heap<'a, C> {
     }
 
     // Lets a place wait at a cost, unless it waits at one that is not greater.
-    pub fn offer<T: Tariff<Cost = C>>(&mut self, place: u32, cost: C)
+    pub(super) fn offer<T: Tariff<Cost = C>>(&mut self, place: u32, cost: C)
         requires order { InOrder T.Tariff.rates self.old }
         requires inside { place < room (length self.old.list.now) }
         ensures order { InOrder T.Tariff.rates self.new }
@@ -64,7 +64,7 @@ impl<'a, C: Copy> Heap<'a, C> {
     }
 
     // Removes the place at the first position.
-    pub fn remove_first<T: Tariff<Cost = C>>(&mut self) -> Taken<C>
+    pub(super) fn remove_first<T: Tariff<Cost = C>>(&mut self) -> Taken<C>
         requires order { InOrder T.Tariff.rates self.old }
         requires some { 1 ≤ self.old.count }
         ensures order { InOrder T.Tariff.rates self.new }

@@ -10,7 +10,7 @@ use tariff::Tariff;
 
 impl<'a, C: Copy> Ring<'a, C> {
     // The cost at which a place waits.
-    pub fn waiting_at(&self, place: u32) -> Option<C>
+    pub(super) fn waiting_at(&self, place: u32) -> Option<C>
         requires few { self.now.touched ≤ room (length self.now.list.now) }
         requires inside { place + 1 < length self.now.list.now }
         ensures { result ≡ (view_of self.now).waiting place }
@@ -23,7 +23,7 @@ impl<'a, C: Copy> Ring<'a, C> {
     }
 
     // Lets no place wait, in so many rows.
-    pub fn clear(&mut self, rows: u64)
+    pub(super) fn clear(&mut self, rows: u64)
         ensures emptied { Emptied self.new rows }
         ensures list { self.new.list.now ≡ self.old.list.now }
     {
@@ -34,7 +34,7 @@ impl<'a, C: Copy> Ring<'a, C> {
     }
 
     // Lets a place wait at a cost, first in its row.
-    pub fn join<T: Tariff<Cost = C>>(&mut self, place: u32, cost: C)
+    pub(super) fn join<T: Tariff<Cost = C>>(&mut self, place: u32, cost: C)
         requires order { InOrder T.Tariff.rates self.old }
         requires inside { place + 1 < length self.old.list.now }
         requires free { (view_of self.old).waiting place ≡ None }
@@ -51,7 +51,7 @@ impl<'a, C: Copy> Ring<'a, C> {
     }
 
     // Lets a place of a row wait no more.
-    pub fn leave<T: Tariff<Cost = C>>(&mut self, row: usize, place: u32)
+    pub(super) fn leave<T: Tariff<Cost = C>>(&mut self, row: usize, place: u32)
         requires order { InOrder T.Tariff.rates self.old }
         requires filed { filed T.Tariff.rates self.old.rows (view_of self.old).waiting place ≡ Some row }
         ensures order { InOrder T.Tariff.rates self.new }
@@ -78,7 +78,7 @@ impl<'a, C: Copy> Ring<'a, C> {
     }
 
     // Lets a place wait at a cost, unless it waits at one that is not greater.
-    pub fn offer<T: Tariff<Cost = C>>(&mut self, place: u32, cost: C)
+    pub(super) fn offer<T: Tariff<Cost = C>>(&mut self, place: u32, cost: C)
         requires order { InOrder T.Tariff.rates self.old }
         requires inside { place + 1 < length self.old.list.now }
         requires near { Within T.Tariff.rates self.old.rows (base T.Tariff.rates self.old.last) cost }

@@ -43,7 +43,7 @@ fn first_in(heads: &[Option<u32>; 32], from: usize, to: usize) -> Option<Bucket>
 
 impl<'a, C: Copy> Ring<'a, C> {
     // The row of a cost.
-    pub fn row_of<T: Tariff<Cost = C>>(&self, cost: C) -> usize
+    pub(super) fn row_of<T: Tariff<Cost = C>>(&self, cost: C) -> usize
         requires { 0 < self.now.rows }
         ensures { result ≡ T.Tariff.rates.level cost % self.now.rows }
     {
@@ -51,7 +51,7 @@ impl<'a, C: Copy> Ring<'a, C> {
     }
 
     // The first row that is not empty, from that of the cost taken last, or of nothing, on round the ring.
-    pub fn first_row<T: Tariff<Cost = C>>(&self) -> Option<Bucket>
+    pub(super) fn first_row<T: Tariff<Cost = C>>(&self) -> Option<Bucket>
         requires { InOrder T.Tariff.rates self.now }
         ensures { Found (λ k. slice_index_or self.now.heads k None) self.now.rows (base T.Tariff.rates self.now.last % self.now.rows) result }
     {

@@ -63,10 +63,18 @@ static WHOLE_PARTS: [u16; 1024] = [
     1443, 1445, 1446,
 ];
 
+// The table. Its rule is proved once, over all of it.
+fn whole_parts() -> &'static [u16]
+    ensures rule { WholeParts result.now }
+    ensures long { length result.now ≡ 1024 }
+{
+    &WHOLE_PARTS
+}
+
 // The whole part of b√2, from the table.
 pub(crate) fn tabled(b: u32) -> u64
     requires { b < 1024 }
     ensures { result ≡ whole_part b }
 {
-    u64::from(WHOLE_PARTS[b as usize])
+    u64::from(whole_parts()[b as usize])
 }
