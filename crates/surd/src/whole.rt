@@ -11,7 +11,7 @@ const TABLED: u32 = 1024;
 const SCALE: u128 = 1 << 66;
 
 // The whole part of SCALE times √2.
-const ROOT_TWO: u128 = 104350542602662257698;
+const ROOT_TWO: u128 = 104_350_542_602_662_257_698;
 
 // The whole part, computed without the table.
 fn scaled(b: u32) -> u64
