@@ -28,7 +28,7 @@ pub enum SheetFault {
 
 impl SheetFault {
     // The number and the value. Each refusal of the router has one of each, by definition.
-    fn refusal(self) -> (u32, u32)
+    pub fn refusal(self) -> (u32, u32)
         ensures number { result.0 ≡ (sheet_refusal self).number }
         ensures named { result.1 ≡ (sheet_refusal self).named }
     {

@@ -9,20 +9,6 @@ use super::shape::Shape;
 use super::site::Site;
 use super::step::{Direction, Step};
 
-// The ten directions, in the order in which a wire is traced back.
-const DIRECTIONS: [Direction; 10] = [
-    Direction::West,
-    Direction::East,
-    Direction::North,
-    Direction::South,
-    Direction::NorthWest,
-    Direction::NorthEast,
-    Direction::SouthWest,
-    Direction::SouthEast,
-    Direction::Up,
-    Direction::Down,
-];
-
 // The ten directions, in the order in which a wire is traced back. They lead to exactly the places that a step joins;
 // a constant could not promise that.
 #[tactic(auto, using(crate::proofs::Joining::exact))]
@@ -30,7 +16,18 @@ pub fn directions() -> [Direction; 10]
     ensures is { result ≡ order }
     ensures exact { DirectionsAreExact }
 {
-    DIRECTIONS
+    [
+        Direction::West,
+        Direction::East,
+        Direction::North,
+        Direction::South,
+        Direction::NorthWest,
+        Direction::NorthEast,
+        Direction::SouthWest,
+        Direction::SouthEast,
+        Direction::Up,
+        Direction::Down,
+    ]
 }
 
 impl Shape {

@@ -3,7 +3,7 @@ ghost use Rattle.std.specs.Prelude.{◌≤◌};
 
 // How many columns, rows and layers a board has. All three are counted from 0. No shape is past the bounds that the type
 // keeps, so no board has more than 2,097,152 places.
-#[derive(Clone, Copy)]
+#[derive(Clone, Copy, PartialEq, Eq, Debug)]
 pub struct Shape {
     pub columns: u32,
     pub rows: u32,

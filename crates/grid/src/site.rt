@@ -5,7 +5,7 @@ ghost use Rattle.grid.specs.Places.{number_of};
 use super::shape::{Coordinates, Shape};
 
 // A place of a shape with its coordinates, which are taken once: its ten neighbours then cost no division.
-#[derive(Clone, Copy)]
+#[derive(Clone, Copy, PartialEq, Eq, Debug)]
 pub struct Site {
     pub shape: Shape,
     pub place: u32,

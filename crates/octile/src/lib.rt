@@ -12,17 +12,17 @@ use tariff::Tariff;
 // A cost is a + b√2: 1 for each straight step, √2 for each diagonal and 8 for each via.
 pub struct Octile;
 
-// The largest a that a step may come to.
-const STRAIGHT_LIMIT: u32 = 16_777_216;
+// The largest a that a step may come to: straight steps and vias both raise it.
+const A_LIMIT: u32 = 16_777_216;
 
-// The largest b that a step may come to.
-const DIAGONAL_LIMIT: u32 = 2_097_152;
+// The largest b that a step may come to: diagonals raise it.
+const B_LIMIT: u32 = 2_097_152;
 
 // Whether neither part of a cost is past its limit.
 fn fits(cost: Surd) -> bool
     ensures { result ≡ octile_fits cost }
 {
-    cost.a <= STRAIGHT_LIMIT && cost.b <= DIAGONAL_LIMIT
+    cost.a <= A_LIMIT && cost.b <= B_LIMIT
 }
 
 impl Tariff for Octile {

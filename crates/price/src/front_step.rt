@@ -70,7 +70,8 @@ where
     print_front::<T, Heap<T::Cost>>(rt, name, &mut heap)
 }
 
-// What a ring of five places makes of the offers.
+// What a ring of five places makes of the offers. The ring's stands apart: one function for both would need a trait for
+// making a front.
 fn print_ring<T: Tariff>(rt: &HostRuntime, name: &str) -> anyhow::Result<()>
 where
     T::Cost: Display,

@@ -23,7 +23,7 @@ where
     T::Cost: Display,
 {
     let mut cost = T::nothing();
-    for (from, to) in wire.iter().zip(wire.iter().skip(1)) {
+    for [from, to] in wire.array_windows::<2>() {
         let Ok(leg) = price_step::<T>(shape, *from, *to, cost) else {
             return Ok(());
         };

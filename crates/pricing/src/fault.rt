@@ -21,7 +21,7 @@ impl fmt::Display for StepFault {
 
     fn fmt<W: fmt::Write>(&self, f: &mut fmt::Formatter<W>) -> fmt::Result {
         match self {
-            StepFault::NotJoined => write!(f, "not a step"),
+            StepFault::NotJoined => f.write_str("not a step"),
             StepFault::Lacked(step) => write!(f, "not in the tariff: {step}"),
             StepFault::Refused(step) => write!(f, "past the limits: {step}"),
         }
@@ -44,7 +44,7 @@ impl fmt::Display for WireFault {
 
     fn fmt<W: fmt::Write>(&self, f: &mut fmt::Formatter<W>) -> fmt::Result {
         match self {
-            WireFault::NoPlace => write!(f, "no place"),
+            WireFault::NoPlace => f.write_str("no place"),
             WireFault::OutsideShape(place) => write!(f, "{place} is outside the shape"),
             WireFault::AtStep(number, fault) => write!(f, "step {number} is {fault}"),
         }

@@ -35,6 +35,8 @@ pub fn price<T: Tariff>(shape: Shape, wire: &[u32]) -> Result<T::Cost, WireFault
     ensures wire { (c : T.Cost) → (result ≡ Ok c) ↔ Costs T.Tariff.rates shape wire.now c }
 {
     let (start, rest) = wire.split_first().ok_or(WireFault::NoPlace)?;
+    // The place before is carried by hand: a loop over pairs of neighbours would be proved of what its iterator has left, and
+    // not of the number of the step.
     let mut from = *start;
     if from >= shape.places() {
         return Err(WireFault::OutsideShape(from));

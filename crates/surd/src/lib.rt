@@ -32,7 +32,8 @@ impl Surd {
         a * a + 2 * (b * b)
     }
 
-    // Whether the number is less than the other.
+    // Whether the number is less than the other. The same as `<`, and the place where the contract says what that is of
+    // real numbers.
     #[tactic(auto, using(crate::proofs::Separation::less_rules))]
     pub fn below(self, other: Surd) -> bool
         ensures is { result ≡ is_below self other }

@@ -1,6 +1,6 @@
 // The whole parts of b√2 that stand in a table.
-ghost use Rattle.std.specs.Prelude.{◌≡◌, ◌<◌, length};
-ghost use Rattle.surd.specs.Surds.{WholeParts, whole_part};
+ghost use Rattle.std.specs.Prelude.{◌≡◌, length};
+ghost use Rattle.surd.specs.Surds.{WholeParts};
 
 // The whole parts of b√2 for b from 0 to 1,023, as docs/TARIFFS.md has them: listed, and not computed at the start.
 static WHOLE_PARTS: [u16; 1024] = [
@@ -64,17 +64,9 @@ static WHOLE_PARTS: [u16; 1024] = [
 ];
 
 // The table. Its rule is proved once, over all of it.
-fn whole_parts() -> &'static [u16]
+pub(crate) fn whole_parts() -> &'static [u16]
     ensures rule { WholeParts result.now }
     ensures long { length result.now ≡ 1024 }
 {
     &WHOLE_PARTS
-}
-
-// The whole part of b√2, from the table.
-pub(crate) fn tabled(b: u32) -> u64
-    requires { b < 1024 }
-    ensures { result ≡ whole_part b }
-{
-    u64::from(whole_parts()[b as usize])
 }

@@ -46,7 +46,7 @@ pub trait Tariff {
     // SPAN is the span of the rates.
     ghost span_is: { SPAN ≡ rates.span };
 
-    // SPAN again, as a call.
+    // SPAN again, as a call whose contract says that it is the span of the rates: code then need not cite the law.
     final fn max_rise() -> u32
         ensures { result ≡ rates.span }
     {

@@ -64,7 +64,7 @@ impl Tariff for ViaFirst {
         ensures ordered { (result ≡ true) ↔ FewerViasOrShorter a b }
     {
         // By a derived order this would be a < b, but that takes half as long again.
-        a.vias < b.vias || a.vias == b.vias && a.rest.below(b.rest)
+        a.vias < b.vias || (a.vias == b.vias && a.rest.below(b.rest))
     }
 
     fn has(_step: Step) -> bool {

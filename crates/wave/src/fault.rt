@@ -21,28 +21,31 @@ pub enum SearchFault {
 }
 
 impl SearchFault {
+    // The number and the value. A fault of the sheet keeps its own.
+    fn refusal(self) -> (u32, u32)
+        ensures number { result.0 ≡ (search_refusal self).number }
+        ensures named { result.1 ≡ (search_refusal self).named }
+    {
+        match self {
+            SearchFault::Sheet(fault) => fault.refusal(),
+            SearchFault::NotServed(places) => (9, places),
+            SearchFault::NoPath(goal) => (10, goal),
+            SearchFault::ShortPath(places) => (11, places),
+        }
+    }
+
     // The number of the refusal.
     pub fn number(self) -> u32
         ensures { result ≡ (search_refusal self).number }
     {
-        match self {
-            SearchFault::Sheet(fault) => fault.number(),
-            SearchFault::NotServed(_) => 9,
-            SearchFault::NoPath(_) => 10,
-            SearchFault::ShortPath(_) => 11,
-        }
+        self.refusal().0
     }
 
     // The value that the refusal names.
     pub fn named(self) -> u32
         ensures { result ≡ (search_refusal self).named }
     {
-        match self {
-            SearchFault::Sheet(fault) => fault.named(),
-            SearchFault::NotServed(value)
-            | SearchFault::NoPath(value)
-            | SearchFault::ShortPath(value) => value,
-        }
+        self.refusal().1
     }
 }
 
@@ -59,8 +62,7 @@ impl fmt::Display for SearchFault {
     ghost output = { λ fault. Some (refusal_text (search_refusal fault)) };
 
     fn fmt<W: fmt::Write>(&self, f: &mut fmt::Formatter<W>) -> fmt::Result {
-        let number = self.number();
-        let named = self.named();
+        let (number, named) = self.refusal();
         write!(f, "{number} {named}")
     }
 }
