@@ -91,6 +91,7 @@ impl<'a> Ground for WideSheet<'a> {
     }
 }
 
+// An impl that promises more than the interface says the interface's clauses again.
 impl<'a> Sheet for WideSheet<'a> {
     ghost board = { λ s. wide_sheet s.shape s.cells.now };
 
