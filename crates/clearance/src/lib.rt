@@ -19,11 +19,7 @@ fn moved_by(at: u32, offset: u32, bound: u32) -> Option<u32>
     requires small { offset < 3 }
     ensures { result ≡ moved (offset_move offset) at bound }
 {
-    let next = at + offset;
-    if next < 1 || next > bound {
-        return None;
-    }
-    Some(next - 1)
+    (at + offset).checked_sub(1).filter(|next| *next < bound)
 }
 
 // The place at the offsets of the row and the column; absent outside the board.
