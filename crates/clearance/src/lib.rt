@@ -11,18 +11,15 @@ use grid::{Coordinates, Site};
 use layer::{Layer, Narrowing};
 use sheet::Ground;
 
-// A coordinate moved by an offset: 0 is one less, 1 the same and 2 one more. Absent past the edges of the board.
+// A coordinate moved by an offset: 0 is one less, 1 the same and 2 one more. Absent past the edges of the board. Counted
+// from 0, so that no signed number stands between the loops and the definition.
 fn moved_by(at: u32, offset: u32, bound: u32) -> Option<u32>
     requires inside { at < bound }
     requires most { bound ≤ 512 }
     requires small { offset < 3 }
     ensures { result ≡ moved (offset_move offset) at bound }
 {
-    let next = at + offset;
-    if next < 1 || next > bound {
-        return None;
-    }
-    Some(next - 1)
+    (at + offset).checked_sub(1).filter(|next| *next < bound)
 }
 
 // The place at the offsets of the row and the column; absent outside the board.
@@ -67,7 +64,8 @@ impl Narrowing for Clear {
     ghost exact = { λ _ g sound p n. clear_exact g p n sound _ refl };
 
     // Whether the place and its straight and diagonal neighbours are open below. At most nine questions are asked below,
-    // none after the first place that is closed.
+    // none after the first place that is closed. Two nested loops left by a label, as this question is laid down: it ends at
+    // the first place that is closed.
     fn is_open<G: Ground>(&self, below: &G, place: u32, net: u16) -> bool {
         let Some(site) = below.shape().site(place) else {
             return false;

@@ -1,4 +1,5 @@
-// Laying a whole path for one net, on any sheet.
+// Laying a whole path for one net, on any sheet. Path and net are two parameters: a struct of the two would be taken apart
+// again in each function.
 #![tactic(auto)]
 
 ghost use Rattle.std.specs.Prelude.{◌≡◌, Ok};

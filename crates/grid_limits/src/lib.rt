@@ -7,10 +7,6 @@ mod tests {
     use std::process::Abort;
     use std::test::Fail;
 
-    fn shape(columns: u32, rows: u32, layers: u32) -> Result<Shape, Fail> {
-        Shape::new(columns, rows, layers).map_err(|_| Fail::new("no shape"))
-    }
-
     // A shape of these numbers is made.
     fn check_made(rt: &impl Abort, columns: u32, rows: u32, layers: u32) {
         let size = Shape::new(columns, rows, layers).map(|shape| [
@@ -54,7 +50,7 @@ mod tests {
 
     #[test]
     fn places(rt: HostRuntime) -> Result<(), Fail> {
-        let shape = shape(512, 512, 8)?;
+        let shape = Shape::new(512, 512, 8)?;
         assert_eq!(rt; shape.places(), 2_097_152);
         check_place(&rt, shape, coordinates(0, 0, 0), 0);
         check_place(&rt, shape, coordinates(511, 511, 7), 2_097_151);
@@ -78,7 +74,7 @@ mod tests {
         place: u32,
         all: [Option<u32>; 10],
     ) -> Result<(), Fail> {
-        let site = shape.site(place).ok_or_else(|| Fail::new("no site"))?;
+        let site = shape.site(place).ok_or("no site")?;
         for (direction, expected) in directions().iter().zip(all) {
             let to = site.neighbour(*direction);
             assert_eq!(rt; to, expected);
@@ -91,7 +87,7 @@ mod tests {
 
     #[test]
     fn neighbours(rt: HostRuntime) -> Result<(), Fail> {
-        let shape = shape(3, 3, 3)?;
+        let shape = Shape::new(3, 3, 3)?;
         let inner = [12, 14, 10, 16, 9, 11, 15, 17, 4, 22];
         check_neighbours(&rt, shape, 13, inner.map(Some))?;
         check_neighbours(
@@ -134,13 +130,13 @@ mod tests {
 
     #[test]
     fn lone_place(rt: HostRuntime) -> Result<(), Fail> {
-        let shape = shape(1, 1, 1)?;
+        let shape = Shape::new(1, 1, 1)?;
         check_neighbours(&rt, shape, 0, [None; 10])
     }
 
     #[test]
     fn steps(rt: HostRuntime) -> Result<(), Fail> {
-        let shape = shape(5, 3, 2)?;
+        let shape = Shape::new(5, 3, 2)?;
         assert_eq!(rt; shape.step(0, 1), Some(Step::Straight));
         assert_eq!(rt; shape.step(5, 0), Some(Step::Straight));
         assert_eq!(rt; shape.step(0, 6), Some(Step::Diagonal));

@@ -35,7 +35,8 @@ impl Narrowing for Table {
     }
 }
 
-// A layer to which rectangles can be added.
+// A layer to which rectangles can be added. A trait, since KeepOut names a type of another crate, to which no method can be
+// added.
 pub trait AddRectangle {
     // The rows that are held.
     ghost rows: { Self → List RowMeaning };
@@ -46,6 +47,7 @@ pub trait AddRectangle {
         ensures after { rows self.new ≡ after_push (rows self.old) row result };
 }
 
+// An impl that promises more than the interface says the interface's clauses again.
 impl<'a, S> AddRectangle for KeepOut<'a, S> {
     ghost rows = { λ s. held_rows s.narrowing };
 

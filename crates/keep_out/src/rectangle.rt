@@ -2,7 +2,7 @@
 ghost use Rattle.std.specs.Prelude.{◌≤◌};
 
 // The columns left to right in the rows top to bottom of a layer. A rectangle may lie partly or wholly beyond a board.
-#[derive(Clone, Copy)]
+#[derive(Clone, Copy, PartialEq, Eq, Debug)]
 pub struct Rectangle {
     pub layer: u32,
     pub left: u32,

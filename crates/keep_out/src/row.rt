@@ -6,7 +6,7 @@ use super::rectangle::Rectangle;
 use grid::{Coordinates, SheetFault};
 
 // Five numbers that may be a rectangle's.
-#[derive(Clone, Copy, Default)]
+#[derive(Clone, Copy, Default, PartialEq, Eq, Debug)]
 pub struct Row {
     pub layer: u32,
     pub left: u32,

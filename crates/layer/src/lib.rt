@@ -51,6 +51,7 @@ impl<'a, S, N: Narrowing + Default> Layer<'a, S, N> {
     }
 }
 
+// An impl that promises more than the interface says the interface's clauses again.
 impl<'a, S: Ground, N: Narrowing> Ground for Layer<'a, S, N> {
     ghost meaning = { λ s. narrowed (N.opened s.narrowing) (S.meaning s.below.now) };
 

@@ -30,9 +30,7 @@ mod tests {
     // A barred corner closes itself and its three neighbours, a barred centre closes all nine places.
     #[test]
     fn clearance_at_edges(rt: HostRuntime) -> Result<(), Fail> {
-        let Ok(shape) = Shape::new(3, 3, 1) else {
-            return Err(Fail::new("no shape"));
-        };
+        let shape = Shape::new(3, 3, 1)?;
         let mut cells = [7u16; 9];
         let mut sheet = WideSheet::new(shape, &mut cells);
         assert_eq!(rt; open_clear(&mut sheet, 1), 9);
@@ -55,9 +53,7 @@ mod tests {
 
     #[test]
     fn clearance_refuses(rt: HostRuntime) -> Result<(), Fail> {
-        let Ok(shape) = Shape::new(1, 1, 1) else {
-            return Err(Fail::new("no shape"));
-        };
+        let shape = Shape::new(1, 1, 1)?;
         let mut cells = [0u16; 1];
         let mut sheet = WideSheet::new(shape, &mut cells);
         assert_eq!(rt;
@@ -91,9 +87,7 @@ mod tests {
         answer: Result<(), SheetFault>,
         open: bool,
     ) -> Result<(), Fail> {
-        let Ok(shape) = Shape::new(2, 2, 1) else {
-            return Err(Fail::new("no shape"));
-        };
+        let shape = Shape::new(2, 2, 1)?;
         let mut cells = [0u16; 4];
         let mut sheet = WideSheet::new(shape, &mut cells);
         let (added, opened) = add_all(&mut sheet, each, count);

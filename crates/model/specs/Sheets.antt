@@ -88,7 +88,8 @@ bar_answer b p =
     ask (nat_lt p (places b)) (refusal 3 p)
     (ask (b.metal.copper p == 0) (refusal 7 p) (ask (nat_le (bare_at b p) (spare b)) (refusal 6 (bare_at b p)) (Ok tt)))
 
--- the copper after v was put at p
+-- the copper after v was put at p. The crate front has the same function for its places, `changed`; neither crate uses the
+-- other.
 abbrev pub put : (ℕ → ℕ) → ℕ → ℕ → ℕ → ℕ
 put f p v q = if q == p then v else f q
 

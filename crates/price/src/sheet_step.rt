@@ -2,6 +2,7 @@
 use grid::{Shape, SheetFault};
 use keep_out::Row;
 use piles::{cover_apart_over_clear, cover_clear};
+use sheet::{BARE, BARRED};
 use wide::WideSheet;
 
 // The place in the upper right corner of the first layer is kept out.
@@ -27,13 +28,13 @@ fn print_answer(
     Ok(())
 }
 
-// Prints the copper of a row of places. In a sheet copper is a number: 0 is bare and 65,535 barred.
+// Prints the copper of a row of places.
 fn print_row(rt: &HostRuntime, cells: &[u16]) -> anyhow::Result<()> {
     print!(rt; " ")?;
     for copper in cells {
         match *copper {
-            0 => print!(rt; " .")?,
-            65535 => print!(rt; " #")?,
+            BARE => print!(rt; " .")?,
+            BARRED => print!(rt; " #")?,
             net => print!(rt; " {net}")?,
         }
     }

@@ -8,7 +8,9 @@ use grid::{Shape, SheetFault};
 
 pub mod questions;
 
-pub use questions::{check_entries, check_net, check_open, check_place, is_bare, is_net};
+pub use questions::{
+    BARE, BARRED, check_entries, check_net, check_open, check_place, is_bare, is_net,
+};
 
 // A ground has a shape and says of each place and net whether the place is open to the net. Nets are 1 to 65,534.
 // Asking changes nothing.

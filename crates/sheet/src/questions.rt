@@ -7,11 +7,17 @@ ghost use Rattle.model.specs.Sheets.{answered, ask, is_net};
 use super::{Ground, Sheet};
 use grid::{Shape, SheetFault};
 
+// The copper of a place that is bare. The nets are the numbers between it and that of a barred place.
+pub const BARE: u16 = 0;
+
+// The copper of a place that is barred.
+pub const BARRED: u16 = 65535;
+
 // Whether a number is a net's, 1 to 65,534.
 pub fn is_net(net: u16) -> bool
     ensures { result ≡ is_net net }
 {
-    (1..=65534).contains(&net)
+    (BARE + 1..BARRED).contains(&net)
 }
 
 // Asks whether the number is a net's (4).
@@ -63,5 +69,5 @@ pub fn check_open<G: Ground>(area: &G, place: u32, net: u16) -> Result<(), Sheet
 pub fn is_bare<S: Sheet>(sheet: &S, place: u32) -> bool
     ensures { result ≡ ((S.board sheet.now).metal.copper place == 0) }
 {
-    sheet.copper(place).unwrap_or(0) == 0
+    sheet.copper(place).unwrap_or(BARE) == BARE
 }

@@ -19,6 +19,7 @@ mod tests {
         cover(&mut sheet, path, net)
     }
 
+    // Calls as values, so that all cases stand in one table.
     #[derive(Clone, Copy)]
     enum Call {
         Lay(u32, u16),
@@ -54,215 +55,265 @@ mod tests {
     // On a board of 2 columns, 2 rows and 1 layer: how many of five entries of 9 are lent, the calls, the last answer, and
     // what the list holds then.
     #[derive(Clone, Copy)]
-    struct Case(usize, &'static [Call], Result<(), SheetFault>, [u16; 5]);
+    struct Case {
+        entries: usize,
+        calls: &'static [Call],
+        answer: Result<(), SheetFault>,
+        left: [u16; 5],
+    }
 
     const CASES: [Case; 36] = [
         // made on a list one short, exact and one long
-        Case(3, &[], Ok(()), [0, 0, 0, 9, 9]),
-        Case(4, &[], Ok(()), [0, 0, 0, 0, 9]),
-        Case(5, &[], Ok(()), [0, 0, 0, 0, 9]),
+        Case {
+            entries: 3,
+            calls: &[],
+            answer: Ok(()),
+            left: [0, 0, 0, 9, 9],
+        },
+        Case {
+            entries: 4,
+            calls: &[],
+            answer: Ok(()),
+            left: [0, 0, 0, 0, 9],
+        },
+        Case {
+            entries: 5,
+            calls: &[],
+            answer: Ok(()),
+            left: [0, 0, 0, 0, 9],
+        },
         // each call on a list one short
-        Case(
-            3,
-            &[Call::Lay(0, 1)],
-            Err(SheetFault::Closed(0)),
-            [0, 0, 0, 9, 9],
-        ),
-        Case(
-            3,
-            &[Call::Lift(0)],
-            Err(SheetFault::CarriesNone(0)),
-            [0, 0, 0, 9, 9],
-        ),
-        Case(
-            3,
-            &[Call::Bar(0)],
-            Err(SheetFault::NoSpare(1)),
-            [0, 0, 0, 9, 9],
-        ),
-        Case(3, &[Call::Wipe], Ok(()), [0, 0, 0, 9, 9]),
-        Case(
-            3,
-            &[Call::Cover([2, 1, 0], 1)],
-            Err(SheetFault::Closed(2)),
-            [0, 0, 0, 9, 9],
-        ),
+        Case {
+            entries: 3,
+            calls: &[Call::Lay(0, 1)],
+            answer: Err(SheetFault::Closed(0)),
+            left: [0, 0, 0, 9, 9],
+        },
+        Case {
+            entries: 3,
+            calls: &[Call::Lift(0)],
+            answer: Err(SheetFault::CarriesNone(0)),
+            left: [0, 0, 0, 9, 9],
+        },
+        Case {
+            entries: 3,
+            calls: &[Call::Bar(0)],
+            answer: Err(SheetFault::NoSpare(1)),
+            left: [0, 0, 0, 9, 9],
+        },
+        Case {
+            entries: 3,
+            calls: &[Call::Wipe],
+            answer: Ok(()),
+            left: [0, 0, 0, 9, 9],
+        },
+        Case {
+            entries: 3,
+            calls: &[Call::Cover([2, 1, 0], 1)],
+            answer: Err(SheetFault::Closed(2)),
+            left: [0, 0, 0, 9, 9],
+        },
         // the first and the last place, and the one past it
-        Case(4, &[Call::Lay(0, 1)], Ok(()), [1, 0, 0, 0, 9]),
-        Case(5, &[Call::Lay(3, 1)], Ok(()), [0, 0, 0, 1, 9]),
-        Case(
-            5,
-            &[Call::Lay(4, 0)],
-            Err(SheetFault::OutsideShape(4)),
-            [0, 0, 0, 0, 9],
-        ),
-        Case(
-            5,
-            &[Call::Lift(4)],
-            Err(SheetFault::OutsideShape(4)),
-            [0, 0, 0, 0, 9],
-        ),
-        Case(
-            5,
-            &[Call::Bar(4)],
-            Err(SheetFault::OutsideShape(4)),
-            [0, 0, 0, 0, 9],
-        ),
+        Case {
+            entries: 4,
+            calls: &[Call::Lay(0, 1)],
+            answer: Ok(()),
+            left: [1, 0, 0, 0, 9],
+        },
+        Case {
+            entries: 5,
+            calls: &[Call::Lay(3, 1)],
+            answer: Ok(()),
+            left: [0, 0, 0, 1, 9],
+        },
+        Case {
+            entries: 5,
+            calls: &[Call::Lay(4, 0)],
+            answer: Err(SheetFault::OutsideShape(4)),
+            left: [0, 0, 0, 0, 9],
+        },
+        Case {
+            entries: 5,
+            calls: &[Call::Lift(4)],
+            answer: Err(SheetFault::OutsideShape(4)),
+            left: [0, 0, 0, 0, 9],
+        },
+        Case {
+            entries: 5,
+            calls: &[Call::Bar(4)],
+            answer: Err(SheetFault::OutsideShape(4)),
+            left: [0, 0, 0, 0, 9],
+        },
         // the least and the largest net, and the numbers beside them
-        Case(
-            5,
-            &[Call::Lay(1, 0)],
-            Err(SheetFault::NoNet(0)),
-            [0, 0, 0, 0, 9],
-        ),
-        Case(5, &[Call::Lay(1, 65534)], Ok(()), [0, 65534, 0, 0, 9]),
-        Case(
-            5,
-            &[Call::Lay(1, 65535)],
-            Err(SheetFault::NoNet(65535)),
-            [0, 0, 0, 0, 9],
-        ),
+        Case {
+            entries: 5,
+            calls: &[Call::Lay(1, 0)],
+            answer: Err(SheetFault::NoNet(0)),
+            left: [0, 0, 0, 0, 9],
+        },
+        Case {
+            entries: 5,
+            calls: &[Call::Lay(1, 65534)],
+            answer: Ok(()),
+            left: [0, 65534, 0, 0, 9],
+        },
+        Case {
+            entries: 5,
+            calls: &[Call::Lay(1, 65535)],
+            answer: Err(SheetFault::NoNet(65535)),
+            left: [0, 0, 0, 0, 9],
+        },
         // laid twice, for the same net and for another, and on a barred place
-        Case(
-            5,
-            &[Call::Lay(1, 7), Call::Lay(1, 7)],
-            Ok(()),
-            [0, 7, 0, 0, 9],
-        ),
-        Case(
-            5,
-            &[Call::Lay(1, 7), Call::Lay(1, 8)],
-            Err(SheetFault::Closed(1)),
-            [0, 7, 0, 0, 9],
-        ),
-        Case(
-            5,
-            &[Call::Bar(1), Call::Lay(1, 7)],
-            Err(SheetFault::Closed(1)),
-            [0, 65535, 0, 0, 9],
-        ),
+        Case {
+            entries: 5,
+            calls: &[Call::Lay(1, 7), Call::Lay(1, 7)],
+            answer: Ok(()),
+            left: [0, 7, 0, 0, 9],
+        },
+        Case {
+            entries: 5,
+            calls: &[Call::Lay(1, 7), Call::Lay(1, 8)],
+            answer: Err(SheetFault::Closed(1)),
+            left: [0, 7, 0, 0, 9],
+        },
+        Case {
+            entries: 5,
+            calls: &[Call::Bar(1), Call::Lay(1, 7)],
+            answer: Err(SheetFault::Closed(1)),
+            left: [0, 65535, 0, 0, 9],
+        },
         // lifted where bare, barred and of a net
-        Case(
-            5,
-            &[Call::Lift(1)],
-            Err(SheetFault::CarriesNone(1)),
-            [0, 0, 0, 0, 9],
-        ),
-        Case(
-            5,
-            &[Call::Bar(1), Call::Lift(1)],
-            Err(SheetFault::CarriesNone(1)),
-            [0, 65535, 0, 0, 9],
-        ),
-        Case(
-            5,
-            &[Call::Lay(1, 65534), Call::Lift(1)],
-            Ok(()),
-            [0, 0, 0, 0, 9],
-        ),
+        Case {
+            entries: 5,
+            calls: &[Call::Lift(1)],
+            answer: Err(SheetFault::CarriesNone(1)),
+            left: [0, 0, 0, 0, 9],
+        },
+        Case {
+            entries: 5,
+            calls: &[Call::Bar(1), Call::Lift(1)],
+            answer: Err(SheetFault::CarriesNone(1)),
+            left: [0, 65535, 0, 0, 9],
+        },
+        Case {
+            entries: 5,
+            calls: &[Call::Lay(1, 65534), Call::Lift(1)],
+            answer: Ok(()),
+            left: [0, 0, 0, 0, 9],
+        },
         // barred where bare, of a net and barred
-        Case(5, &[Call::Bar(3)], Ok(()), [0, 0, 0, 65535, 9]),
-        Case(
-            5,
-            &[Call::Lay(3, 7), Call::Bar(3)],
-            Err(SheetFault::NotBare(3)),
-            [0, 0, 0, 7, 9],
-        ),
-        Case(
-            5,
-            &[Call::Bar(3), Call::Bar(3)],
-            Err(SheetFault::NotBare(3)),
-            [0, 0, 0, 65535, 9],
-        ),
+        Case {
+            entries: 5,
+            calls: &[Call::Bar(3)],
+            answer: Ok(()),
+            left: [0, 0, 0, 65535, 9],
+        },
+        Case {
+            entries: 5,
+            calls: &[Call::Lay(3, 7), Call::Bar(3)],
+            answer: Err(SheetFault::NotBare(3)),
+            left: [0, 0, 0, 7, 9],
+        },
+        Case {
+            entries: 5,
+            calls: &[Call::Bar(3), Call::Bar(3)],
+            answer: Err(SheetFault::NotBare(3)),
+            left: [0, 0, 0, 65535, 9],
+        },
         // wiped
-        Case(
-            5,
-            &[Call::Lay(0, 7), Call::Bar(3), Call::Wipe],
-            Ok(()),
-            [0, 0, 0, 0, 9],
-        ),
+        Case {
+            entries: 5,
+            calls: &[Call::Lay(0, 7), Call::Bar(3), Call::Wipe],
+            answer: Ok(()),
+            left: [0, 0, 0, 0, 9],
+        },
         // a path, also over places of its own net
-        Case(5, &[Call::Cover([0, 1, 3], 7)], Ok(()), [7, 7, 0, 7, 9]),
-        Case(
-            5,
-            &[Call::Lay(1, 7), Call::Cover([0, 1, 3], 7)],
-            Ok(()),
-            [7, 7, 0, 7, 9],
-        ),
+        Case {
+            entries: 5,
+            calls: &[Call::Cover([0, 1, 3], 7)],
+            answer: Ok(()),
+            left: [7, 7, 0, 7, 9],
+        },
+        Case {
+            entries: 5,
+            calls: &[Call::Lay(1, 7), Call::Cover([0, 1, 3], 7)],
+            answer: Ok(()),
+            left: [7, 7, 0, 7, 9],
+        },
         // with a place in its middle that is barred, of another net, or outside
-        Case(
-            5,
-            &[Call::Bar(1), Call::Cover([0, 1, 3], 7)],
-            Err(SheetFault::Closed(1)),
-            [0, 65535, 0, 0, 9],
-        ),
-        Case(
-            5,
-            &[Call::Lay(1, 8), Call::Cover([0, 1, 3], 7)],
-            Err(SheetFault::Closed(1)),
-            [0, 8, 0, 0, 9],
-        ),
-        Case(
-            5,
-            &[Call::Cover([0, 4, 3], 7)],
-            Err(SheetFault::OutsideShape(4)),
-            [0, 0, 0, 0, 9],
-        ),
+        Case {
+            entries: 5,
+            calls: &[Call::Bar(1), Call::Cover([0, 1, 3], 7)],
+            answer: Err(SheetFault::Closed(1)),
+            left: [0, 65535, 0, 0, 9],
+        },
+        Case {
+            entries: 5,
+            calls: &[Call::Lay(1, 8), Call::Cover([0, 1, 3], 7)],
+            answer: Err(SheetFault::Closed(1)),
+            left: [0, 8, 0, 0, 9],
+        },
+        Case {
+            entries: 5,
+            calls: &[Call::Cover([0, 4, 3], 7)],
+            answer: Err(SheetFault::OutsideShape(4)),
+            left: [0, 0, 0, 0, 9],
+        },
         // for numbers that are no net's, which are asked first
-        Case(
-            5,
-            &[Call::Cover([4, 4, 4], 0)],
-            Err(SheetFault::NoNet(0)),
-            [0, 0, 0, 0, 9],
-        ),
-        Case(
-            5,
-            &[Call::Cover([4, 4, 4], 65535)],
-            Err(SheetFault::NoNet(65535)),
-            [0, 0, 0, 0, 9],
-        ),
+        Case {
+            entries: 5,
+            calls: &[Call::Cover([4, 4, 4], 0)],
+            answer: Err(SheetFault::NoNet(0)),
+            left: [0, 0, 0, 0, 9],
+        },
+        Case {
+            entries: 5,
+            calls: &[Call::Cover([4, 4, 4], 65535)],
+            answer: Err(SheetFault::NoNet(65535)),
+            left: [0, 0, 0, 0, 9],
+        },
         // with a place that stands in it three times
-        Case(
-            5,
-            &[Call::Bar(1), Call::Cover([0, 0, 0], 7)],
-            Ok(()),
-            [7, 65535, 0, 0, 9],
-        ),
-        Case(
-            5,
-            &[Call::Bar(1), Call::Bar(2), Call::Cover([0, 0, 0], 7)],
-            Err(SheetFault::NoSpare(3)),
-            [0, 65535, 65535, 0, 9],
-        ),
-        Case(
-            5,
-            &[
+        Case {
+            entries: 5,
+            calls: &[Call::Bar(1), Call::Cover([0, 0, 0], 7)],
+            answer: Ok(()),
+            left: [7, 65535, 0, 0, 9],
+        },
+        Case {
+            entries: 5,
+            calls: &[Call::Bar(1), Call::Bar(2), Call::Cover([0, 0, 0], 7)],
+            answer: Err(SheetFault::NoSpare(3)),
+            left: [0, 65535, 65535, 0, 9],
+        },
+        Case {
+            entries: 5,
+            calls: &[
                 Call::Bar(1),
                 Call::Bar(2),
                 Call::Lay(0, 7),
                 Call::Cover([0, 0, 0], 7),
             ],
-            Ok(()),
-            [7, 65535, 65535, 0, 9],
-        ),
+            answer: Ok(()),
+            left: [7, 65535, 65535, 0, 9],
+        },
     ];
 
     #[test]
     fn calls(rt: HostRuntime) -> Result<(), Fail> {
-        let Ok(shape) = Shape::new(2, 2, 1) else {
-            return Err(Fail::new("no shape"));
-        };
-        for Case(entries, calls, answer, left) in CASES {
+        let shape = Shape::new(2, 2, 1)?;
+        for case in CASES {
             let mut cells = [9u16; 5];
-            assert!(rt; entries <= 5);
-            assert_eq!(rt; make_all(shape, &mut cells[0..entries], calls), answer);
-            assert_eq!(rt; cells, left);
+            assert!(rt; case.entries <= 5);
+            let answer = make_all(shape, &mut cells[0..case.entries], case.calls);
+            assert_eq!(rt; answer, case.answer);
+            assert_eq!(rt; cells, case.left);
         }
         Ok(())
     }
 
     // Where place 1 carries net 1 and place 2 is barred, on a list of so many entries: a place, a net, whether the place is
-    // open to the net, the copper of the place, a number, and whether the spare covers so many.
+    // open to the net, the copper of the place, a number, and whether the spare covers so many. The columns have no names, so
+    // that a row stands in one line.
     #[derive(Clone, Copy)]
     struct Question(usize, u32, u16, bool, Option<u16>, u32, bool);
 
@@ -285,9 +336,7 @@ mod tests {
 
     #[test]
     fn questions(rt: HostRuntime) -> Result<(), Fail> {
-        let Ok(shape) = Shape::new(2, 2, 1) else {
-            return Err(Fail::new("no shape"));
-        };
+        let shape = Shape::new(2, 2, 1)?;
         for Question(entries, place, net, open, copper, needed, spares) in QUESTIONS {
             assert!(rt; entries <= 5);
             let mut cells = [9u16; 5];
@@ -304,9 +353,7 @@ mod tests {
     // The corner places of a board of 3 columns, 2 rows and 2 layers.
     #[test]
     fn corners(rt: HostRuntime) -> Result<(), Fail> {
-        let Ok(shape) = Shape::new(3, 2, 2) else {
-            return Err(Fail::new("no shape"));
-        };
+        let shape = Shape::new(3, 2, 2)?;
         let mut cells = [9u16; 13];
         assert_eq!(rt;
             wire_list(shape, &mut cells, &[0, 2, 3, 5, 6, 8, 9, 11], 7),
@@ -319,16 +366,15 @@ mod tests {
     // A board of one place.
     #[test]
     fn lone_place(rt: HostRuntime) -> Result<(), Fail> {
-        let Ok(shape) = Shape::new(1, 1, 1) else {
-            return Err(Fail::new("no shape"));
-        };
+        let shape = Shape::new(1, 1, 1)?;
         let mut cells = [9u16; 2];
         assert_eq!(rt; wire_list(shape, &mut cells, &[0], 65534), Ok(()));
         assert_eq!(rt; cells, [65534, 9]);
         Ok(())
     }
 
-    // A drawing on a list one short, exact and one long: how many entries are lent, a place, a net, and whether it is open.
+    // A drawing on a list one short, exact and one long: how many entries are lent, a place, a net, and whether it is open. The
+    // columns have no names, so that a row stands in one line.
     const DRAWN: [(usize, u32, u16, bool); 10] = [
         (3, 0, 1, false),
         (4, 0, 1, true),
@@ -344,9 +390,7 @@ mod tests {
 
     #[test]
     fn drawings(rt: HostRuntime) -> Result<(), Fail> {
-        let Ok(shape) = Shape::new(2, 2, 1) else {
-            return Err(Fail::new("no shape"));
-        };
+        let shape = Shape::new(2, 2, 1)?;
         let cells = [0u8, 1, 255, 0, 0];
         for (entries, place, net, open) in DRAWN {
             assert!(rt; entries <= 5);

@@ -7,7 +7,7 @@ ghost use Rattle.model.specs.Wide.{wide_ground, wide_metal, wide_sheet, wide_hel
 
 use super::entries::entries_served;
 use grid::{Shape, SheetFault};
-use sheet::{Ground, Sheet, check_net, check_open, check_place, is_net};
+use sheet::{BARE, BARRED, Ground, Sheet, check_net, check_open, check_place, is_net};
 
 // A sheet over a lent list of 16-bit numbers, one a place: 0 bare, 1 to 65,534 a net, 65,535 barred. Its limit is the
 // number of places. A place is open to a net if it is bare or carries it. On a list that has fewer entries than there are
@@ -23,7 +23,7 @@ fn zero(cells: &mut [u16], count: usize)
     requires { count ≤ length cells.old }
     ensures { cells.new ≡ zeroed count cells.old }
 {
-    cells[..count].fill(0);
+    cells[..count].fill(BARE);
 }
 
 // The entry at an index, 0 past the end. No entry passes 65,535.
@@ -31,7 +31,7 @@ fn entry(cells: &[u16], at: usize) -> u16
     ensures is { result ≡ slice_index cells.now at }
     ensures small { (p : ℕ) → slice_index cells.now p ≤ 65535 }
 {
-    cells.get(at).copied().unwrap_or(0)
+    cells.get(at).copied().unwrap_or(BARE)
 }
 
 // Whether so many entries are 0. A chain of `filter`, `take` and `count` was tried: it takes 1.7 times as long.
@@ -43,7 +43,7 @@ fn has_bare(cells: &[u16], needed: u32) -> bool
         if missing == 0 {
             return true;
         }
-        if *here == 0 {
+        if *here == BARE {
             missing -= 1;
         }
     }
@@ -87,10 +87,11 @@ impl<'a> Ground for WideSheet<'a> {
             && self
                 .entries()
                 .get(place as usize)
-                .is_some_and(|here| *here == 0 || *here == net)
+                .is_some_and(|here| *here == BARE || *here == net)
     }
 }
 
+// An impl that promises more than the interface says the interface's clauses again.
 impl<'a> Sheet for WideSheet<'a> {
     ghost board = { λ s. wide_sheet s.shape s.cells.now };
 
@@ -132,7 +133,7 @@ impl<'a> Sheet for WideSheet<'a> {
         if !is_net(here) {
             return Err(SheetFault::CarriesNone(place));
         }
-        self.cells[place as usize] = 0;
+        self.cells[place as usize] = BARE;
         Ok(())
     }
 
@@ -143,14 +144,14 @@ impl<'a> Sheet for WideSheet<'a> {
         ensures list { self.new.cells.now ≡ written (is_ok result) self.old.cells.now place 65535 }
     {
         let here = self.copper(place).ok_or(SheetFault::OutsideShape(place))?;
-        if here != 0 {
+        if here != BARE {
             return Err(SheetFault::NotBare(place));
         }
         // On a list that is too short, no place has an entry.
         if place as usize >= self.entries().len() {
             return Err(SheetFault::NoSpare(1));
         }
-        self.cells[place as usize] = 65535;
+        self.cells[place as usize] = BARRED;
         Ok(())
     }
 
