@@ -1,4 +1,4 @@
-// The row that comes first.
+// The row that comes first. The inner order stands in the contract: it depends on the tariff, which the type does not name.
 ghost use Rattle.std.specs.Prelude.{◌≡◌, ◌+◌, ◌%◌, ◌<◌, ◌≤◌, None, slice_index_or};
 ghost use Rattle.rows.specs.Waiting.{some_rows};
 ghost use Rattle.rows.specs.Rows.{base};
