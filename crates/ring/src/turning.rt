@@ -33,12 +33,7 @@ fn first_in(heads: &[Option<u32>; 32], from: usize, to: usize) -> Option<Bucket>
     requires { to ≤ 32 }
     ensures { FoundIn (λ k. slice_index_or heads.now k None) from to result }
 {
-    for row in from..to {
-        if let Some(head) = heads[row] {
-            return Some(Bucket { row, head });
-        }
-    }
-    None
+    (from..to).find_map(|row| heads[row].map(|head| Bucket { row, head }))
 }
 
 impl<'a, C: Copy> Ring<'a, C> {
