@@ -1,6 +1,6 @@
 // Reads and writes of the heap's list. That a place has a record stands in each contract: a place is any number of 32 bits, and
-// the lent list alone says which have records. Where places are inserted and removed it is `place < room ..`: `room` also keeps
-// within the numbers of 32 bits, which the order needs.
+// the lent list alone says which have records. Where places come to wait it is `place < room ..`: `room` also keeps within the
+// numbers of 32 bits, which the order needs.
 ghost use Rattle.std.specs.Prelude.{◌≡◌, ◌+◌, ◌-◌, ◌<◌, ◌≤◌, length, Some};
 ghost use Rattle.sift.specs.Layouts.{layout, filled, priced, key};
 
