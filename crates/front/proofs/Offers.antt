@@ -1,6 +1,6 @@
 -- Changes of the cost at which one place waits.
-use Rattle.std.proofs.Common.{◌≡◌, ℕ, ◌<◌, true, Some, None, Option, sym, refl, ap, ◌∙◌, ⊎_elim}
-use Rattle.std.proofs.lemmas.Bool.{cases_eq, cases_Bool, cond-true, cond-false}
+use Rattle.std.proofs.Common.{◌≡◌, ℕ, true, nat_lt, Some, None, Option, sym, refl, ap, ◌∙◌, ⊎_elim}
+use Rattle.std.proofs.lemmas.Bool.{cases_eq, cases_Bool, cond-true, cond-false, ltb-true}
 use Rattle.grid.specs.declared.step.Step.{Step}
 use Rattle.tariff.specs.Rates.{Rates, Laws, followed}
 use Rattle.front.specs.Queue.{Queue, Offered, offer, smaller}
@@ -42,5 +42,5 @@ module _ {C : Type 0} where
         (cases_Bool (t.has k))
 
     -- PUT: it is offered that
-    pub offered : {q q' : Queue C} {p : ℕ} {k : Step} {c : C} → p < q.served → offer t q.last k ≡ Some c → Offers t q q' p c → Offered t p k q q'
-    offered {c} i o e = record { inside = i; cost = c; offered = o; here = here e; others = others e; last = e.last; serves = e.serves }
+    pub offered : {q q' : Queue C} {p : ℕ} {k : Step} {o : Option C} {c : C} → nat_lt p q.served ≡ true → o ≡ offer t q.last k → o ≡ Some c → Offers t q q' p c → Offered t p k q q'
+    offered {c} i a s e = record { inside = ltb-true _ _ i; cost = c; offered = sym a ∙ s; here = here e; others = others e; last = e.last; serves = e.serves }

@@ -9,7 +9,7 @@ use grid::Step;
 use tariff::Tariff;
 
 // A place that was taken, and the cost at which it waited.
-#[derive(Clone, Copy)]
+#[derive(Clone, Copy, PartialEq, Eq, Debug)]
 pub struct Taken<C> {
     pub place: u32,
     pub cost: C,
@@ -55,7 +55,8 @@ pub fn cost_offered<T: Tariff>(last: Option<T::Cost>, step: Step) -> Option<T::C
     last.and_then(|last| T::after(last, step))
 }
 
-// The number of waiting places follows the calls: 1 after a start, one fewer after a take, at most one more after a put.
+// The number of waiting places follows the calls: 1 after a start, one fewer after a take, at most one more after a put. The
+// answer says nothing: the function is there for its contract, and an edit that must fail changes it.
 pub fn counts_follow<C: Copy>() -> bool
     ensures is { result ≡ true }
     ensures counts { CountsFollow C }

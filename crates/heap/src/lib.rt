@@ -1,7 +1,7 @@
 // A front that is an indexed binary heap.
 #![tactic(auto)]
 
-ghost use Rattle.std.specs.Prelude.{◌≡◌, ◌-◌, length};
+ghost use Rattle.std.specs.Prelude.{◌≡◌, ◌-◌, length, nat_lt};
 ghost use Rattle.tariff.specs.Rates.{Rates};
 ghost use Rattle.heap.specs.Queues.{view_of, empty_queue, InOrder};
 
@@ -16,7 +16,7 @@ use tariff::Tariff;
 
 // The waiting places are at the positions 1 to `count` of a lent list, none at less than its parent. A place waits if its
 // record names one of these positions, and that position names the place; so the list may hold anything at first, and start
-// does not pass over it.
+// does not pass over it. The list is lent: a search has no memory of its own.
 #[derive(Drop)]
 pub struct Heap<'a, C: Copy> {
     list: &'a mut [HeapRecord<C>],
@@ -45,6 +45,13 @@ impl<'a, C: Copy> Heap<'a, C> {
     {
         self.list.len().saturating_sub(1)
     }
+
+    // Whether a place is served.
+    fn holds(&self, place: u32) -> bool
+        ensures { result ≡ nat_lt place (view_of self.now).served }
+    {
+        (place as usize) < self.capacity()
+    }
 }
 
 impl<'a, T: Tariff> Front<T> for Heap<'a, T::Cost> {
@@ -57,7 +64,7 @@ impl<'a, T: Tariff> Front<T> for Heap<'a, T::Cost> {
     }
 
     fn start(&mut self, place: u32) -> bool {
-        if place as usize >= self.capacity() {
+        if !self.holds(place) {
             return false;
         }
         self.count = 0;
@@ -66,8 +73,10 @@ impl<'a, T: Tariff> Front<T> for Heap<'a, T::Cost> {
         true
     }
 
+    // The ring's put reads the same. One for both would need three more calls in the interface: the places served, the cost taken
+    // last, and an offer at a cost.
     fn put(&mut self, place: u32, step: Step) -> bool {
-        if place as usize >= self.capacity() {
+        if !self.holds(place) {
             return false;
         }
         let Some(cost) = cost_offered::<T>(self.last, step) else {

@@ -74,11 +74,7 @@ impl<'a, C: Copy> Heap<'a, C> {
         ensures { Fills T.Tariff.rates self.old self.new 1 place }
     {
         let mut hole = 1;
-        // A `while let` over a call that borrows the heap is not covered.
-        loop {
-            let Some(child) = self.lower_child::<T>(hole, cost) else {
-                break;
-            };
+        while let Some(child) = self.lower_child::<T>(hole, cost) {
             let other = self.slot_at(child);
             link(self.list, hole, other);
             hole = child;

@@ -1,5 +1,6 @@
 // Places are inserted, wait at a smaller cost, and are removed. A place and its cost are two parameters: a struct of them would
-// be a second `Taken`, of what was not taken.
+// be a second `Taken`, of what was not taken. The inner order stands in each contract: it depends on the tariff, which the type
+// does not name.
 ghost use Rattle.std.specs.Prelude.{◌≡◌, ◌+◌, ◌-◌, ◌<◌, ◌≤◌, true, false, length, Some, None};
 ghost use Rattle.front.specs.Places.{room, Waits, Offers};
 ghost use Rattle.sift.specs.Layouts.{layout, waits, lower, LeastWaits};

@@ -1,3 +1,4 @@
 pub mod Emptying
+pub mod Finding
 pub mod Rounds
 pub mod Taking

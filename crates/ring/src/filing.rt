@@ -1,4 +1,5 @@
-// Places that come into rows and leave them.
+// Places that come into rows and leave them. The inner order stands in each contract: it depends on the tariff, which the type
+// does not name.
 ghost use Rattle.std.specs.Prelude.{◌≡◌, ◌+◌, ◌<◌, ◌≤◌, length, Some, None};
 ghost use Rattle.front.specs.Places.{room, Waits, Offers};
 ghost use Rattle.rows.specs.Rows.{base, filed, Within};

@@ -1,7 +1,7 @@
 // A front of rows in a ring, for every tariff whose span is 1 to 31.
 #![tactic(auto)]
 
-ghost use Rattle.std.specs.Prelude.{◌≡◌, ℕ, ◌-◌, length, None};
+ghost use Rattle.std.specs.Prelude.{◌≡◌, ℕ, ◌-◌, length, nat_lt, None};
 ghost use Rattle.tariff.specs.Rates.{Rates};
 ghost use Rattle.ring.specs.Rings.{view_of, InOrder};
 
@@ -58,6 +58,13 @@ impl<'a, C: Copy> Ring<'a, C> {
     {
         self.list.len().saturating_sub(1)
     }
+
+    // Whether a place is served.
+    fn holds(&self, place: u32) -> bool
+        ensures { result ≡ nat_lt place (view_of self.now).served }
+    {
+        (place as usize) < self.capacity()
+    }
 }
 
 impl<'a, T: Tariff> Front<T> for Ring<'a, T::Cost> {
@@ -71,7 +78,7 @@ impl<'a, T: Tariff> Front<T> for Ring<'a, T::Cost> {
 
     fn start(&mut self, place: u32) -> bool {
         let span = T::max_rise();
-        if !has_rows(span) || place as usize >= self.capacity() {
+        if !has_rows(span) || !self.holds(place) {
             return false;
         }
         self.clear(row_count(span));
@@ -79,8 +86,10 @@ impl<'a, T: Tariff> Front<T> for Ring<'a, T::Cost> {
         true
     }
 
+    // The heap's put reads the same. One for both would need three more calls in the interface: the places served, the cost taken
+    // last, and an offer at a cost.
     fn put(&mut self, place: u32, step: Step) -> bool {
-        if place as usize >= self.capacity() {
+        if !self.holds(place) {
             return false;
         }
         let Some(cost) = cost_offered::<T>(self.last, step) else {
@@ -92,6 +101,7 @@ impl<'a, T: Tariff> Front<T> for Ring<'a, T::Cost> {
 
     fn take(&mut self) -> Option<Taken<T::Cost>> {
         let first = self.first_row::<T>()?;
+        // A head waits, so there is a cost.
         let cost = self.waiting_at(first.head).unwrap();
         self.leave::<T>(first.row, first.head);
         self.last = Some(cost);

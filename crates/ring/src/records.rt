@@ -18,7 +18,9 @@ pub fn in_use<C: Copy>(list: &[RingRecord<C>], touched: usize, place: u32) -> bo
     at < touched && list[at + 1].slot == place
 }
 
-// Gives a place a cost, or none.
+// Gives a place a cost, or none. This function and the next two write one field each. One function for all would take a
+// closure, and each call would be longer than the write. The writes are functions of the list, so that a caller knows that the
+// other fields stay.
 pub fn set_cost<C: Copy>(list: &mut [RingRecord<C>], place: u32, cost: Option<C>)
     requires { place + 1 < length list.old }
     ensures { layout list.new ≡ edit (layout list.old) place (new_cost cost) }

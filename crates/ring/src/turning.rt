@@ -1,4 +1,4 @@
-// The row that comes first.
+// The row that comes first. The inner order stands in the contract: it depends on the tariff, which the type does not name.
 ghost use Rattle.std.specs.Prelude.{◌≡◌, ◌+◌, ◌%◌, ◌<◌, ◌≤◌, None, slice_index_or};
 ghost use Rattle.rows.specs.Waiting.{some_rows};
 ghost use Rattle.rows.specs.Rows.{base};
@@ -33,12 +33,7 @@ fn first_in(heads: &[Option<u32>; 32], from: usize, to: usize) -> Option<Bucket>
     requires { to ≤ 32 }
     ensures { FoundIn (λ k. slice_index_or heads.now k None) from to result }
 {
-    for row in from..to {
-        if let Some(head) = heads[row] {
-            return Some(Bucket { row, head });
-        }
-    }
-    None
+    (from..to).find_map(|row| heads[row].map(|head| Bucket { row, head }))
 }
 
 impl<'a, C: Copy> Ring<'a, C> {

@@ -1,14 +1,11 @@
 -- Which places wait, and the links between places and positions.
-use Rattle.std.proofs.Common.{◌≡◌, ℕ, ◌<◌, ◌≤◌, Bool, true, false, cond, ◌&&◌, eqb, leb, Some, None, sym, refl, ap, ◌∙◌, subst, ⊎_elim, arith}
+use Rattle.std.proofs.Common.{◌≡◌, ℕ, ◌<◌, ◌≤◌, true, false, cond, ◌&&◌, eqb, leb, Some, None, sym, refl, ap, ◌∙◌, subst, ⊎_elim, arith}
 use Rattle.std.proofs.lemmas.Bool.{cases_eq, cases_Bool, cond-true, cond-false, and_parts, and_from, leb-true, le-leb, eqb-true, eq-eqb}
+use Rattle.std.specs.Cmp.{both_ways}
 use Rattle.front.specs.Places.{changed}
 use Rattle.sift.specs.Layouts.{Layout, filled, Linked, waits, wait_cost}
 use Rattle.front.proofs.Changes.{changed_at, changed_off, changed_same}
 use Rattle.sift.proofs.Records.{layout_same}
-
-pub same_test : (a b : Bool) → (a ≡ true → b ≡ true) → (b ≡ true → a ≡ true) → a ≡ b
-same_test true b f g = sym (f refl)
-same_test false b f g = ⊎_elim (λ e. g e ∙ sym e) (λ e. sym e) (cases_Bool b)
 
 -- `waits` in words
 pub record IsWaiting {C : Type 0} (h : Layout C) (count p : ℕ) : Type 0 where
@@ -117,7 +114,7 @@ module _ {C : Type 0} (h : Layout C) (n count i u q : ℕ) (l : Linked (filled h
       let wi : W.slot i ≡ o = changed_off (changed h.slot i o) u q i iu ∙ changed_at h.slot i o i refl in
       let off : ((j : ℕ) → (j ≡ i → ⊥) → (j ≡ u → ⊥) → W.slot j ≡ V.slot j) =
       λ j n1 n2. changed_off (changed h.slot i o) u q j n2 ∙ changed_off h.slot i o j n1 ∙ sym (changed_off h.slot i q j n1) in
-      same_test (waits W count k) (waits V count k)
+      both_ways (waits W count k) (waits V count k)
       (λ e. let s = waits_position W count k e in position_waits V count n l k (⊎_elim
       (λ a. record { position = i; first = i1; most = im; here = vi ∙ sym wu ∙ ap W.slot (sym a) ∙ s.here })
       (λ n2. ⊎_elim

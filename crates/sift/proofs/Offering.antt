@@ -1,10 +1,11 @@
 -- A place waits at a new cost.
 use Rattle.std.proofs.Common.{◌≡◌, ℕ, ◌+◌, ◌/◌, ◌<◌, ◌≤◌, true, false, Some, sym, refl, ap, ◌∙◌, subst, ⊎_elim, arith}
 use Rattle.std.proofs.lemmas.Bool.{cases_eq}
+use Rattle.std.specs.Cmp.{both_ways}
 use Rattle.tariff.specs.Rates.{Rates, Laws}
 use Rattle.sift.specs.Layouts.{Layout, filled, priced, lower, key, waits, Linked, Heaped, OrderUp, HoleUp, Sifted, WaitsAt}
 use Rattle.front.proofs.Changes.{changed_at, changed_off}
-use Rattle.sift.proofs.Links.{same_test, waits_true, waits_position, position_waits, waiting_cost, wait_cost_same, filled_self}
+use Rattle.sift.proofs.Links.{waits_true, waits_position, position_waits, waiting_cost, wait_cost_same, filled_self}
 use Rattle.sift.proofs.Orders.{not_lower, lower_not}
 use Rattle.sift.proofs.Rooms.{absent, has_room}
 
@@ -69,7 +70,7 @@ module _ {C : Type 0} {t : Rates C} (h : Layout C) (n count p : ℕ) (c : C) (s 
       record {
         here = position_waits v m n insert_linked p (record { position = m; first = omega arith; most = omega arith; here = changed_at h.slot m p m refl });
         cost = changed_at h.cost p (Some c) p refl;
-        others = λ k ne. same_test (waits v m k) (waits h count k)
+        others = λ k ne. both_ways (waits v m k) (waits h count k)
             (λ e. let a = waits_position v m k e in
             let nm : (a.position ≡ m → ⊥) = λ x. ne (sym a.here ∙ changed_at h.slot m p a.position x) in
             let am = a.most in

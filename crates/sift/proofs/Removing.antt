@@ -1,11 +1,12 @@
 -- The first place waits no more.
 use Rattle.std.proofs.Common.{◌≡◌, ℕ, ◌-◌, ◌/◌, ◌<◌, ◌≤◌, true, false, Some, None, sym, refl, ap, ◌∙◌, subst, ⊎_elim, arith}
 use Rattle.std.proofs.lemmas.Bool.{cases_eq, cases_Bool, cond-true, cond-false}
+use Rattle.std.specs.Cmp.{both_ways}
 use Rattle.tariff.specs.Rates.{Rates, Laws}
 use Rattle.front.proofs.Costs.{under}
 use Rattle.sift.specs.Layouts.{Layout, filled, lower, key, waits, wait_cost, Linked, Heaped, HoleDown, Sifted, WaitsNoMore, LeastWaits}
 use Rattle.front.proofs.Changes.{changed_at, changed_off}
-use Rattle.sift.proofs.Links.{same_test, waits_true, waits_position, position_waits, slot_waits, waiting_cost, wait_cost_same}
+use Rattle.sift.proofs.Links.{waits_true, waits_position, position_waits, slot_waits, waiting_cost, wait_cost_same}
 use Rattle.sift.proofs.Orders.{first_least}
 
 -- in v the place p does not wait, and every other does as in h
@@ -38,13 +39,13 @@ module _ {C : Type 0} {t : Rates C} (laws : Laws t) (h : Layout C) (n count : �
       let z : ◌≡◌ {A = ℕ} 0 1 = cc in omega arith))
       (cases_Bool (waits h count k))
 
-  pub first_waits : (c : C) → key h 1 ≡ Some c → LeastWaits t h n count (h.slot 1) c
-  first_waits c top = record {
+  pub first_waits : (p : ℕ) (c : C) → h.slot 1 ≡ p → key h 1 ≡ Some c → LeastWaits t h n count p c
+  first_waits p c e top = rw (← e) (record {
     inside = (s.linked.slots 1 (omega arith) c1).0;
     was = waiting_cost h count (h.slot 1) c (slot_waits h count n s.linked 1 (omega arith) c1) top;
     least = first_lowest c top;
     early = λ k d x q e a. under laws c d x (first_lowest c top k d e) (laws.grows d x q a);
-  }
+  })
 
 -- the place at the last position goes to the first
 module _ {C : Type 0} {t : Rates C} (h : Layout C) (n count : ℕ) (s : Heaped t h n count) (two : 2 ≤ count) where
@@ -67,18 +68,19 @@ module _ {C : Type 0} {t : Rates C} (h : Layout C) (n count : ℕ) (s : Heaped t
             (cases_eq i 1);
       }
 
-  pub moved_hole : (c : C) → key h count ≡ Some c → HoleDown t h n (count - 1) 1 (h.slot count) c
-  moved_hole c here =
+  pub moved_hole : (p : ℕ) (c : C) → h.slot count ≡ p → key h count ≡ Some c → HoleDown t h n (count - 1) 1 p c
+  moved_hole p c e here =
       let q = h.slot count in
       let v = filled h 1 q in
       let k : ((j : ℕ) → (j ≡ 1 → ⊥) → key v j ≡ key h j) = λ j ne. ap h.cost (changed_off h.slot 1 q j ne) in
-      record {
+      subst (λ x. HoleDown t h n (count - 1) 1 x c) e
+      (record {
         hole = record { first = omega arith; most = omega arith; place = (s.linked.slots count (omega arith) (omega arith)).0; here = here; linked = moved_linked };
         order = record {
           rest = λ j tw jm ne. let ej = k j (λ e. omega arith) in let eu = k (j / 2) ne in rw (ej, eu) (s.order j tw (omega arith));
           over = λ j tw jm e. absurd (omega arith);
         };
-      }
+      })
 
   moved_without : Without h (filled h 1 (h.slot count)) count (count - 1) (h.slot 1)
   moved_without =
@@ -103,7 +105,7 @@ module _ {C : Type 0} {t : Rates C} (h : Layout C) (n count : ℕ) (s : Heaped t
       (cases_eq a.position 1) in
       record {
         gone = ⊎_elim (λ e. absurd ((back (h.slot 1) e).1 refl)) (λ e. e) (cases_Bool (waits v m (h.slot 1)));
-        others = λ k ne. same_test (waits v m k) (waits h count k)
+        others = λ k ne. both_ways (waits v m k) (waits h count k)
             (λ e. (back k e).0)
             (λ e. let a = waits_position h count k e in
             let am = a.most in
@@ -120,5 +122,5 @@ module _ {C : Type 0} {t : Rates C} (h : Layout C) (n count : ℕ) (s : Heaped t
         costs = λ k. refl;
       }
 
-  pub removed : (k : Layout C) → Sifted t (filled h 1 (h.slot count)) k n (count - 1) → WaitsNoMore t h k n count (count - 1) (h.slot 1)
-  removed k r = waits_no_more moved_without r
+  pub removed : (q : ℕ) → h.slot count ≡ q → (k : Layout C) → Sifted t (filled h 1 q) k n (count - 1) → WaitsNoMore t h k n count (count - 1) (h.slot 1)
+  removed q e k r = waits_no_more moved_without (subst (λ x. Sifted t (filled h 1 x) k n (count - 1)) (sym e) r)

@@ -38,8 +38,8 @@ module _ {C : Type 0} (h : Layout C) (n count i u q : ℕ) (c : C) (s : Hole h n
   hole_key = ap h.cost (changed_off h.slot i q u ne)
 
 -- that place has a record, in a list of m
-pub place_inside : {C : Type 0} (h : Layout C) (m m' count i u q : ℕ) (c : C) → m ≡ m' → Hole h (room m') count i q c → 1 ≤ u → u ≤ count → (u ≡ i → ⊥) → h.slot u + 1 < m
-place_inside h m m' count i u q c e s u1 um ne = let p = hole_place h (room m') count i u q c s u1 um ne in omega arith
+pub place_inside : {C : Type 0} (h : Layout C) (m m' count i u q : ℕ) (c : C) → m ≡ m' → Hole h (room m') count i q c → 1 ≤ u → u ≤ count → (u ≡ i → ⊥) → (o : ℕ) → h.slot u ≡ o → o + 1 < m
+place_inside h m m' count i u q c e s u1 um ne o is = let p = hole_place h (room m') count i u q c s u1 um ne in omega arith
 
 module _ {C : Type 0} (h : Layout C) (n count i q : ℕ) (c : C) (s : Hole h n count i q c) where
   pub hole_here : key (filled h i q) i ≡ Some c
@@ -110,17 +110,17 @@ module _ {C : Type 0} {t : Rates C} (laws : Laws t) (g h h' : Layout C) (n count
   done : Hole h n count i q c → SameWaiting g (filled h i q) count → Order t (key (filled h i q)) count → h' ≡ filled h i q → Sifted t g h' n count
   done s v o e = subst (λ k. Sifted t g k n count) (sym e) (record { same = v; heaped = record { linked = s.linked; order = o } })
 
-  pub up_done : GoingUp t g h n count i q c → false ≡ below_parent t h i c → h' ≡ filled h i q → Sifted t g h' n count
-  up_done (s, v) stop e = done s.hole v (settled_up laws (key (filled h i q)) count i s.order (λ two.
+  pub up_done : GoingUp t g h n count i q c → false ≡ below_parent t h i c → h' ≡ filled h i q → (m : ℕ) → count ≡ m → Sifted t g h' n m
+  up_done (s, v) stop e m l = subst (Sifted t g h' n) l (done s.hole v (settled_up laws (key (filled h i q)) count i s.order (λ two.
       let most = s.hole.most in
       let ki = hole_here h n count i q c s.hole in
       let ku = hole_key h n count i (i / 2) q c s.hole (omega arith) (omega arith) (λ e. omega arith) in
-      rw (ki, ku) (below_parent_false t h i c stop two))) e
+      rw (ki, ku) (below_parent_false t h i c stop two))) e)
 
-  pub down_done : GoingDown t g h n count i q c → None ≡ lower_child t h count i c → h' ≡ filled h i q → Sifted t g h' n count
-  down_done (s, v) stop e = done s.hole v (settled_down laws (key (filled h i q)) count i s.order (λ j jc under.
+  pub down_done : GoingDown t g h n count i q c → None ≡ lower_child t h count i c → h' ≡ filled h i q → (m : ℕ) → count ≡ m → Sifted t g h' n m
+  down_done (s, v) stop e m l = subst (Sifted t g h' n) l (done s.hole v (settled_down laws (key (filled h i q)) count i s.order (λ j jc under.
       let i1 = s.hole.first in
       let k = key (filled h i q) in
       let ki : k i ≡ Some c = hole_here h n count i q c s.hole in
       let kj : k j ≡ key h j = hole_key h n count i j q c s.hole (omega arith) jc (λ x. omega arith) in
-      rw (kj, ki) (lower_child_none laws h count i c stop j jc under))) e
+      rw (kj, ki) (lower_child_none laws h count i c stop j jc under))) e)

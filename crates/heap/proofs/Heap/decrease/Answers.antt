@@ -7,12 +7,8 @@ use Rattle.heap.proofs.Heap.decrease.Goals as goal
 
 pub sift_up-requires : goal.sift_up-requires
 sift_up-requires g c =
-    let s = c.args.self.now in
-    let xs = s.list.now in
-    let p = c.args.place in
-    let x = c.args.cost in
-    may_rise xs c.set_cost.new.list p x c.set_cost.ensures c.set_cost.auto.list s.count c.position_of-position.result
-    (rw (← c.position_of-position.ensures) (decrease_hole g.met.T.Tariff.laws (layout xs) (room (length xs)) s.count p x c.requires.order c.requires.present c.requires.less))
+    may_rise _ _ _ _ c.set_cost.ensures c.set_cost.auto.list _ _
+    (rw (← c.position_of-position.ensures) (decrease_hole g.met.T.Tariff.laws _ _ _ _ _ c.requires.order c.requires.present c.requires.less))
 
 pub returns-clause-change : goal.returns-clause-change
 returns-clause-change g c =

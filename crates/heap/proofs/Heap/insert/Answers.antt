@@ -7,12 +7,7 @@ use Rattle.heap.proofs.Heap.insert.Goals as goal
 
 pub sift_up-requires : goal.sift_up-requires
 sift_up-requires g c =
-    let s = c.args.self.now in
-    let xs = s.list.now in
-    let p = c.args.place in
-    let x = c.args.cost in
-    may_rise xs c.set_cost.new.list p x c.set_cost.ensures c.set_cost.auto.list (s.count + 1) (s.count + 1)
-    (insert_hole (layout xs) (room (length xs)) s.count p x c.requires.order c.requires.inside c.requires.absent)
+    may_rise _ _ _ _ c.set_cost.ensures c.set_cost.auto.list _ _ (insert_hole _ _ _ _ _ c.requires.order c.requires.inside c.requires.absent)
 
 pub returns-clause-change : goal.returns-clause-change
 returns-clause-change g c =

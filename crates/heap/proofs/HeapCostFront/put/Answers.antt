@@ -1,8 +1,6 @@
-use Rattle.std.proofs.Common.{◌<◌, ◌-◌, length, sym, ◌∙◌, rules}
+use Rattle.std.proofs.Common.{rules}
 use Rattle.front.proofs.Offers.{offered}
 use Rattle.heap.proofs.HeapCostFront.put.Goals as goal
 
 pub returns-clause-acts : goal.returns-clause-acts
-returns-clause-acts g c =
-    let inside : c.args.place < length c.args.self.now.list.now - 1 = search rules in
-    offered inside (sym c.cost_offered.ensures ∙ c.in-Some.is) c.offer.ensures.change
+returns-clause-acts g c = offered (search rules) c.cost_offered.ensures c.in-Some.is c.offer.ensures.change
