@@ -8,10 +8,9 @@ use Rattle.grid.specs.Places.{count_of}
 use Rattle.tariff.specs.Rates.{Rates, Laws}
 use Rattle.model.specs.Sheets.{Ground, Sound}
 use Rattle.route.proofs.Labels.{wire_is_wire}
-use Rattle.route.proofs.Order.{none_some}
 use Rattle.wave.specs.declared.fault.SearchFault.{SearchFault}
 use Rattle.wave.specs.Questions.{search_refusal, search_answered, refused_by, unless}
-use Rattle.wave.proofs.Asking.{granted, unless_some, unless_none}
+use Rattle.wave.proofs.Asking.{passed, granted, unless_some, unless_none}
 use Rattle.trace.specs.declared.walk.Trace.{Trace}
 use Rattle.trace.specs.Trace.{traced, trace_asks, trace_answer, room_asks, write_asks, write_answer, path_after, written, AfterSearch}
 use Rattle.trace.specs.Walk.{places_left, Begun}
@@ -37,10 +36,6 @@ told t g n start goal ls x (asked, X) f turned r e =
 ok_is : {a b : ℕ} → ◌≡◌ {A = Result ℕ Refusal} (Ok a) (Ok b) → a ≡ b
 ok_is e = cc
 
-passed : (b : Bool) (f : Refusal) → cond b None (Some f) ≡ None → b ≡ true
-passed true f e = refl
-passed false f e = none_some (sym e)
-
 module _ {T C : Type 0} (t : Rates C) (g : Ground) (n start goal : ℕ) (ls : List (Option C)) (x : Trace T C) (begun : Begun t g start goal ls (Ok x)) (path : List ℕ) (places : ℕ)
     (counted : Ok places ≡ trace_answer g (length ls) (length (traced t g n start goal ls)))
     (room : ◌≡◌ {A = Result (Unit {0}) Refusal} (Ok tt) (unless (refused_by (room_asks places (length path))) (Ok tt))) where
@@ -56,13 +51,13 @@ module _ {T C : Type 0} (t : Rates C) (g : Ground) (n start goal : ℕ) (ls : Li
 
   pub part_size : length (take places path) ≡ length (places_left t x)
   part_size =
-      let l = leb-true places (length path) (passed (leb places (length path)) (refusal 11 places) roomy) in
+      let l = leb-true places (length path) (passed (leb places (length path)) (refusal 11 places) None roomy).0 in
       length-take-le places path l ∙ places_are ∙ ap length (begun.1 n).is ∙ length-reverse (places_left t x)
 
   asked : refused_by (write_asks g (length ls) ps (length path)) ≡ None
   asked =
       cond-true (leb (count_of g.shape) (length ls)) (refused_by (room_asks (length ps) (length path))) (Some (refusal 2 (count_of g.shape)))
-      (passed (leb (count_of g.shape) (length ls)) (refusal 2 (count_of g.shape)) begun.0)
+      (passed (leb (count_of g.shape) (length ls)) (refusal 2 (count_of g.shape)) None begun.0).0
       ∙ ap (λ k. refused_by (room_asks k (length path))) (sym places_are) ∙ roomy
 
   pub wrote_answer : Ok places ≡ write_answer g (length ls) ps (length path)

@@ -1,4 +1,5 @@
-// The wire to a goal, traced back over labels: its places counted and written.
+// The wire to a goal, traced back over labels: its places counted and written. The three public calls take the same loans, as
+// the subject lists them; `begin` makes the trace of them.
 ghost use Rattle.std.specs.Prelude.{◌≡◌, ◌≤◌, reverse, count_by, length, Ok, ◌==◌};
 ghost use Rattle.model.specs.Paths.{bare_entries};
 ghost use Rattle.wave.specs.Questions.{search_answered, unless, refused_by};

@@ -17,7 +17,7 @@ use Rattle.route.proofs.Laws.{lawful}
 use Rattle.wave.specs.Questions.{Question, ask, refused_by, unless, serves, start_asks, wave_asks, search_asks, whole_wave, RefusalLeaves}
 
 -- a question that holds, and the rest
-passed : (b : Bool) (f : Refusal) (rest : Option Refusal) → cond b rest (Some f) ≡ None → (b ≡ true) × (rest ≡ None)
+pub passed : (b : Bool) (f : Refusal) (rest : Option Refusal) → cond b rest (Some f) ≡ None → (b ≡ true) × (rest ≡ None)
 passed true f rest h = (refl, h)
 passed false f rest h = none_some (sym h)
 
