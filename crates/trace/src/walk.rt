@@ -91,7 +91,7 @@ pub(crate) fn begin<'a, G: Ground, T: Tariff>(
     connection: Connection,
     labels: &'a [Option<T::Cost>],
 ) -> Result<Trace<'a, T>, SearchFault>
-    ensures { Begun T.rates (G.meaning area.now) connection.start connection.goal labels.now result }
+    ensures { Begun T.rates (G.meaning area.now) connection labels.now result }
 {
     let shape = area.shape();
     check_entries(shape, labels.len())?;

@@ -8,9 +8,9 @@ use Rattle.grid.proofs.Numbering.{count_most}
 use Rattle.tariff.specs.Rates.{Rates, Laws}
 use Rattle.front.specs.Queue.{Queue, Removed, Empty}
 use Rattle.model.specs.Sheets.{Ground, Sound as Solid}
-use Rattle.route.specs.Hops.{Hop, around}
+use Rattle.route.specs.Hops.{around}
 use Rattle.route.specs.Paths.{maze}
-use Rattle.route.specs.Search.{Maze, Legal, end, least}
+use Rattle.route.specs.Search.{least}
 use Rattle.route.proofs.States.{Sound, Fresh, MayTake, Labelled}
 use Rattle.route.proofs.Around.{around_back}
 use Rattle.route.proofs.Order.{none_some, cases_option}

@@ -111,7 +111,7 @@ fn check_search<G: Ground, T: Tariff, F: Front<T>>(
     entries: usize,
     front: &F,
 ) -> Result<(), SearchFault>
-    ensures { search_answered result ≡ unless (refused_by (search_asks T.rates (G.meaning area.now) (F.view front.now) connection.net connection.start connection.goal entries)) (Ok tt) }
+    ensures { search_answered result ≡ unless (refused_by (search_asks T.rates (G.meaning area.now) (F.view front.now) connection entries)) (Ok tt) }
 {
     check_start::<G, T, F>(area, connection.net, connection.start, entries, front)?;
     Ok(check_open(area, connection.goal, connection.net)?)
@@ -125,10 +125,10 @@ pub fn search<G: Ground, T: Tariff, F: Front<T>>(
     labels: &mut [Option<T::Cost>],
     front: &mut F,
 ) -> Result<T::Cost, SearchFault>
-    ensures answer { search_answered result ≡ search_answer T.rates (G.meaning area.now) (F.view front.old) connection.net connection.start connection.goal (length labels.old) }
+    ensures answer { search_answered result ≡ search_answer T.rates (G.meaning area.now) (F.view front.old) connection (length labels.old) }
     ensures least { LabelsAreLeast T.rates }
     ensures wire { WireIsWire T.rates }
-    ensures after { SearchLeaves T.rates (G.meaning area.now) connection.net connection.start connection.goal (refused_by (search_asks T.rates (G.meaning area.now) (F.view front.old) connection.net connection.start connection.goal (length labels.old))) labels.old labels.new front.old front.new result }
+    ensures after { SearchLeaves T.rates (G.meaning area.now) connection (refused_by (search_asks T.rates (G.meaning area.now) (F.view front.old) connection (length labels.old))) labels.old labels.new front.old front.new result }
 {
     check_search::<G, T, F>(area, connection, labels.len(), front)?;
     // Cut here, as in the wave.
