@@ -1,11 +1,12 @@
 -- The places around a place are those that a step joins to it.
-use Rattle.std.proofs.Common.{◌≡◌, ℕ, ◌⊎◌, ◌↔◌, List, [], ◌∷◌, ◌++◌, Some, None, Option, sym, refl, ap, ◌∙◌, subst, inl, inr, arith}
+use Rattle.std.proofs.Common.{◌≡◌, ℕ, ◌⊎◌, ◌↔◌, List, [], ◌∷◌, ◌++◌, Some, None, Option, sym, refl, ap, ◌∙◌, subst, inl, inr}
 use Rattle.grid.specs.declared.shape.Shape.{Shape}
 use Rattle.grid.specs.declared.step.Step.{Step}
 use Rattle.grid.specs.declared.step.Direction.{Direction}
 use Rattle.grid.specs.Steps.{kind, order, neighbour_of, Joins, Among as Listed}
 use Rattle.grid.proofs.Joining.{joined, joins_back, exact}
 use Rattle.route.specs.Hops.{Hop, hop, Among, put_in, gather, around}
+use Rattle.route.proofs.Order.{none_some}
 
 -- one more direction at the end
 pub gather_push : (s : Shape) (p : ℕ) (ds : List Direction) (d : Direction) → gather s p (ds ++ (d ∷ [])) ≡ gather s p ds ++ put_in (kind d) (neighbour_of s p d) []
@@ -43,9 +44,6 @@ unfolding gather
 gathered s p q d [] i e = absurd i
 gathered s p q d (x ∷ ds) i e = go (λ j. gathered s p q d ds j e) (neighbour_of s p x) refl i
   where
-    none_some : {A : Type 0} → None ≡ Some q → A
-    none_some f = let z : ◌≡◌ {A = ℕ} 0 1 = cc in absurd (omega arith)
-
     go : (Listed d ds → Among (hop (kind d) q) (gather s p ds)) → (o : Option ℕ) → neighbour_of s p x ≡ o → (d ≡ x) ⊎ Listed d ds → Among (hop (kind d) q) (put_in (kind x) o (gather s p ds))
     go ih None f (inl j) = none_some (sym f ∙ ap (neighbour_of s p) (sym j) ∙ e)
     go ih None f (inr i) = ih i

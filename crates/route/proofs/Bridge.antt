@@ -1,5 +1,6 @@
 -- Paths as lists of places are paths as hops.
-use Rattle.std.proofs.Common.{◌≡◌, ℕ, ◌+◌, ◌≤◌, Bool, true, List, [], ◌∷◌, reverse, length, Some, sym, refl, ap, ◌∙◌, subst, arith}
+use Rattle.std.proofs.Common.{◌≡◌, ℕ, ◌≤◌, Bool, true, List, [], ◌∷◌, reverse, length, Some, sym, refl, ap, ◌∙◌, subst, arith}
+use Rattle.std.proofs.Math.ListN.{length-reverse_aux}
 use mathlib.Core.List.{reverse_aux, reverse-reverse, reverse_aux-reverse_aux-nil}
 use Rattle.grid.specs.declared.shape.Shape.{Shape}
 use Rattle.grid.specs.declared.step.Step.{Step}
@@ -13,10 +14,6 @@ use Rattle.route.proofs.Traces.{visited}
 use Rattle.route.specs.Paths.{AllOpen, AllIn, last, LegalPath, LeastCost, maze}
 use Rattle.route.proofs.Around.{around_joined}
 use Rattle.route.proofs.Order.{length_steps}
-
-length_back : {A : Type 0} (xs ys : List A) → length (reverse_aux xs ys) ≡ length xs + length ys
-length_back [] ys = omega arith
-length_back (x ∷ xs) ys = omega (arith, length_back xs (x ∷ ys))
 
 -- the steps of a walk are told by its places
 walk_one : (s : Shape) (ps : List ℕ) (js ks : List Step) → Walk s ps js → Walk s ps ks → js ≡ ks
@@ -90,7 +87,7 @@ module _ (g : Ground) (sound : Sound g) (n start : ℕ) where
         ends = b.ends ∙ r.ends;
         walk = walk_back has w [] [] r.legal (sound.inside (end m w) n (end_free has w r.legal));
         had = all_back has (steps w) [] (in_steps has w r.legal) tt;
-        short = let e = length_back (steps w) [] in let f = length_steps w in let s : length w ≤ 2097152 = r.short in omega arith;
+        short = let e = length-reverse_aux (steps w) [] in let f = length_steps w in let s : length w ≤ 2097152 = r.short in omega arith;
         open_to = open_back has w [] r.legal tt;
       }
 
@@ -133,7 +130,7 @@ module _ (g : Ground) (sound : Sound g) (n start : ℕ) where
       let open-all = subst (AllOpen g n) x.starts x.open_to in
       let walk = subst (λ qs. Walk g.shape qs x.steps) x.starts x.walk in
       let r = along has [] x.rest x.steps open-all.0 walk open-all.1 x.had in
-      let e = ap length r.by ∙ length_back x.steps [] in
+      let e = ap length r.by ∙ length-reverse_aux x.steps [] in
       let f = length_steps w in
       let s : length x.steps ≤ 2097152 = x.short in
       record {

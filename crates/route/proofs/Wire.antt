@@ -1,5 +1,6 @@
 -- The trace is a least path, and the same over all costs that are known. Assumes nothing.
 use Rattle.std.proofs.Common.{◌≡◌, ℕ, zero, suc, ◌+◌, ◌<◌, ◌≤◌, Bool, true, false, cond, not, eqb, ◌≢◌, ◌⊎◌, List, [], ◌∷◌, ◌++◌, length, Some, None, Option, sym, refl, ap, ◌∙◌, subst, ap₂, subst₂, inl, inr, arith}
+use Rattle.std.specs.Cmp.{both_ways as same_truth}
 use Rattle.std.proofs.lemmas.Bool.{both_ways, cases_eq, cases_Bool, eq-eqb, ne_eqb, cond-true, cond-false, and_from, and_parts, not-true, not_from_false}
 use Rattle.grid.specs.declared.step.Step.{Step}
 use Rattle.tariff.specs.Rates.{Rates, followed, charge}
@@ -26,7 +27,7 @@ visited_free t m [] l q (inr i) = absurd i
 visited_free t m (h ∷ w) l q (inl e) = subst (λ z. m.free z ≡ true) (sym e) l.0
 visited_free t m (h ∷ w) l q (inr i) = visited_free t m w l.3 q i
 
-end_free : {C : Type 0} (t : Rates C) (m : Maze) (w : List Hop) → Legal t.has m w → m.free (end m w) ≡ true
+pub end_free : {C : Type 0} (t : Rates C) (m : Maze) (w : List Hop) → Legal t.has m w → m.free (end m w) ≡ true
 end_free t m [] l = l
 end_free t m (h ∷ w) l = l.0
 
@@ -323,11 +324,6 @@ trace_is_least C t m limit goal f c L num K e =
 pub trace_is_wire : (C : Type 0) → TraceIsWire C
 trace_is_wire C t m limit goal f c L num K e = (traced L m num f K limit goal c [] e tt (λ q i. absurd i) (omega arith) (omega arith)).2
 
-same_test : (a b : Bool) → (a ≡ true → b ≡ true) → (b ≡ true → a ≡ true) → a ≡ b
-same_test true b h k = sym (h refl)
-same_test false true h k = k refl
-same_test false false h k = refl
-
 not_cond : {A : Type 0} {x : A} (b : Bool) (o : Option A) → cond b None o ≡ Some x → o ≡ Some x
 not_cond true o e = none_some e
 not_cond false o e = e
@@ -355,7 +351,7 @@ module _ {C : Type 0} {t : Rates C} {limit : ℕ} (L : Lawful t limit) (m : Maze
   first_same : (p : ℕ) (c : C) → f p ≡ Some c → g p ≡ Some c → (hs : List Hop) → first t f c hs ≡ first t g c hs
   first_same p c ef eg [] = refl
   first_same p c ef eg (h ∷ hs) = ap₂ (λ b r. cond b (Some h) r)
-      (same_test (is_cost t (onward t (f h.to) h.by) c) (is_cost t (onward t (g h.to) h.by) c)
+      (same_truth (is_cost t (onward t (f h.to) h.by) c) (is_cost t (onward t (g h.to) h.by) c)
       (λ y. is_cost_of L _ c (shared L m f g K G p c h eg (cost_is L _ c y)).3)
       (λ y. is_cost_of L _ c (shared L m g f G K p c h ef (cost_is L _ c y)).3))
       (first_same p c ef eg hs)

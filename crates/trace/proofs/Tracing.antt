@@ -9,6 +9,7 @@ use Rattle.route.specs.Hops.{Hop}
 use Rattle.route.specs.Paths.{maze, label_of}
 use Rattle.route.specs.Search.{Maze}
 use Rattle.route.specs.Wire.{back, on_back, trace_back}
+use Rattle.wave.specs.declared.connection.Connection.{Connection}
 use Rattle.wave.specs.Questions.{refused_by}
 use Rattle.trace.specs.Trace.{traced, trace_asks}
 use Rattle.trace.specs.Walk.{ways}
@@ -44,8 +45,8 @@ pub enough : (g : Ground) (s : Shape) (entries : ℕ) → s ≡ g.shape → ◌�
 enough g s entries e h = subst (λ z. refused_by (trace_asks (record g { shape = z }) entries) ≡ None) e (passed (leb (count_of s) entries) (refusal 2 (count_of s)) h)
 
 -- the trace as the code begins it
-pub traced_is : {C : Type 0} (t : Rates C) (g : Ground) (n start goal : ℕ) (ls : List (Option C)) (s : Shape) (k : ℕ) → s ≡ g.shape → k ≡ count_of g.shape →
-    traced t g n start goal ls ≡ reverse (trace_back t (ways s start) (label_of (take k ls)) 2097152 goal)
-traced_is t g n start goal ls s k es ek =
-    ap reverse (trace_ways t g n start (label_of (take (count_of g.shape) ls)) 2097152 goal)
-    ∙ sym (λ i. reverse (trace_back t (ways (es i) start) (label_of (take (ek i) ls)) 2097152 goal))
+pub traced_is : {C : Type 0} (t : Rates C) (g : Ground) (j : Connection) (ls : List (Option C)) (s : Shape) (k : ℕ) → s ≡ g.shape → k ≡ count_of g.shape →
+    traced t g j ls ≡ reverse (trace_back t (ways s j.start) (label_of (take k ls)) 2097152 j.goal)
+traced_is t g j ls s k es ek =
+    ap reverse (trace_ways t g j.net j.start (label_of (take (count_of g.shape) ls)) 2097152 j.goal)
+    ∙ sym (λ i. reverse (trace_back t (ways (es i) j.start) (label_of (take (ek i) ls)) 2097152 j.goal))

@@ -5,11 +5,12 @@ use Rattle.grid.specs.Places.{count_of}
 use Rattle.tariff.specs.Rates.{Rates}
 use Rattle.model.specs.Sheets.{Ground}
 use Rattle.route.specs.Paths.{LeastCost, IsWire, maze, wire_over, wire}
+use Rattle.wave.specs.declared.connection.Connection.{Connection}
 use Rattle.wave.specs.Questions.{Question, ask, refused_by, unless, SomeLabels}
 
 -- THE TRACED WIRE, the start first. The labels may be any; those of the board's places count.
-abbrev pub traced : {C : Type 0} → Rates C → Ground → ℕ → ℕ → ℕ → List (Option C) → List ℕ
-traced t g n start goal ls = wire_over t (maze g n start) (take (count_of g.shape) ls) goal
+abbrev pub traced : {C : Type 0} → Rates C → Ground → Connection → List (Option C) → List ℕ
+traced t g j ls = wire_over t (maze g j.net j.start) (take (count_of g.shape) ls) j.goal
 
 -- A TRACE asks 2: there is a label for each place
 abbrev pub label_ask : Ground → ℕ → Question
@@ -42,6 +43,6 @@ abbrev pub path_after : Ground → ℕ → List ℕ → List ℕ → List ℕ
 path_after g entries ps xs = written (refused_by (write_asks g entries ps (length xs))) ps xs
 
 -- AFTER A GRANTED SEARCH, which leaves the labels ls, P holds of the wire to the goal: it is the wire if the goal has a least cost
-pub record AfterSearch {C : Type 0} (t : Rates C) (g : Ground) (n start goal : ℕ) (ls : List (Option C)) (P : List ℕ → Type 0) : Type 0 where
-  pub holds : (xs : List (Option C)) → SomeLabels t g n start goal xs ls → P (wire t g n start goal)
-  pub is_wire : (c : C) → LeastCost t g n start goal c → IsWire t g n start goal (wire t g n start goal)
+pub record AfterSearch {C : Type 0} (t : Rates C) (g : Ground) (j : Connection) (ls : List (Option C)) (P : List ℕ → Type 0) : Type 0 where
+  pub holds : (xs : List (Option C)) → SomeLabels t g j.net j.start j.goal xs ls → P (wire t g j.net j.start j.goal)
+  pub is_wire : (c : C) → LeastCost t g j.net j.start j.goal c → IsWire t g j.net j.start j.goal (wire t g j.net j.start j.goal)

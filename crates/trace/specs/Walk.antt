@@ -10,6 +10,7 @@ use Rattle.route.specs.Hops.{Hop, around}
 use Rattle.route.specs.Search.{Maze, onward}
 use Rattle.route.specs.Paths.{label_of}
 use Rattle.route.specs.Wire.{is_cost, trace_back}
+use Rattle.wave.specs.declared.connection.Connection.{Connection}
 use Rattle.wave.specs.declared.fault.SearchFault.{SearchFault}
 use Rattle.wave.specs.Questions.{search_refusal, refused_by}
 use Rattle.trace.specs.declared.walk.Trace.{Trace}
@@ -46,7 +47,7 @@ pub record Traces {T C : Type 0} (t : Rates C) (x : Trace T C) (ps : List ℕ) :
   pub is : ps ≡ reverse (places_left t x)
   pub few : length (places_left t x) ≤ 2097153
 
--- a trace begins, or is refused
-abbrev pub Begun : {T C : Type 0} → Rates C → Ground → ℕ → ℕ → List (Option C) → Result (Trace T C) SearchFault → Type 0
-Begun t g start goal ls (Ok x) = (refused_by (trace_asks g (length ls)) ≡ None) × ((n : ℕ) → Traces t x (traced t g n start goal ls))
-Begun t g start goal ls (Err f) = refused_by (trace_asks g (length ls)) ≡ Some (search_refusal f)
+-- a trace begins, for any net, or is refused
+abbrev pub Begun : {T C : Type 0} → Rates C → Ground → Connection → List (Option C) → Result (Trace T C) SearchFault → Type 0
+Begun t g j ls (Ok x) = (refused_by (trace_asks g (length ls)) ≡ None) × ((n : ℕ) → Traces t x (traced t g (record j { net = n }) ls))
+Begun t g j ls (Err f) = refused_by (trace_asks g (length ls)) ≡ Some (search_refusal f)

@@ -12,7 +12,8 @@ use sheet::{Ground, check_entries};
 use tariff::Tariff;
 use wave::{Connection, SearchFault, label_at};
 
-// The places of a wire, traced back from the goal over labels.
+// The places of a wire, traced back from the goal over labels. It is a type of its own since `begin` returns it: `successors` over
+// a closure gives places in the same way, and a function can't name the closure's type as its result.
 #[derive(Drop)]
 pub(crate) struct Trace<'a, T: Tariff> {
     shape: Shape,
@@ -90,7 +91,7 @@ pub(crate) fn begin<'a, G: Ground, T: Tariff>(
     connection: Connection,
     labels: &'a [Option<T::Cost>],
 ) -> Result<Trace<'a, T>, SearchFault>
-    ensures { Begun T.rates (G.meaning area.now) connection.start connection.goal labels.now result }
+    ensures { Begun T.rates (G.meaning area.now) connection labels.now result }
 {
     let shape = area.shape();
     check_entries(shape, labels.len())?;
@@ -99,6 +100,7 @@ pub(crate) fn begin<'a, G: Ground, T: Tariff>(
         start: connection.start,
         labels: &labels[..shape.places() as usize],
         place: Some(connection.goal),
-        steps: 2097152,
+        // No wire of a board has more steps.
+        steps: 2_097_152,
     })
 }

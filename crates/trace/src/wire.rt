@@ -1,4 +1,5 @@
-// The wire to a goal, traced back over labels: its places counted and written.
+// The wire to a goal, traced back over labels: its places counted and written. The three public calls take the same loans, as
+// the subject lists them; `begin` makes the trace of them.
 ghost use Rattle.std.specs.Prelude.{◌≡◌, ◌≤◌, reverse, count_by, length, Ok, ◌==◌};
 ghost use Rattle.model.specs.Paths.{bare_entries};
 ghost use Rattle.wave.specs.Questions.{search_answered, unless, refused_by};
@@ -25,8 +26,8 @@ pub fn wire_length<G: Ground, T: Tariff>(
     connection: Connection,
     labels: &[Option<T::Cost>],
 ) -> Result<u32, SearchFault>
-    ensures answer { search_answered result ≡ trace_answer (G.meaning area.now) (length labels.now) (length (traced T.rates (G.meaning area.now) connection.net connection.start connection.goal labels.now)) }
-    ensures wire { AfterSearch T.rates (G.meaning area.now) connection.net connection.start connection.goal labels.now (λ ps. search_answered result ≡ trace_answer (G.meaning area.now) (length labels.now) (length ps)) }
+    ensures answer { search_answered result ≡ trace_answer (G.meaning area.now) (length labels.now) (length (traced T.rates (G.meaning area.now) connection labels.now)) }
+    ensures wire { AfterSearch T.rates (G.meaning area.now) connection labels.now (λ ps. search_answered result ≡ trace_answer (G.meaning area.now) (length labels.now) (length ps)) }
 {
     let trace = begin::<G, T>(area, connection, labels)?;
     Ok(count(trace))
@@ -47,8 +48,8 @@ pub fn wire_bare<S: Sheet, T: Tariff>(
     connection: Connection,
     labels: &[Option<T::Cost>],
 ) -> Result<u32, SearchFault>
-    ensures answer { search_answered result ≡ trace_answer (S.meaning sheet.now) (length labels.now) (bare_entries (S.board sheet.now) (traced T.rates (S.meaning sheet.now) connection.net connection.start connection.goal labels.now)) }
-    ensures wire { AfterSearch T.rates (S.meaning sheet.now) connection.net connection.start connection.goal labels.now (λ ps. search_answered result ≡ trace_answer (S.meaning sheet.now) (length labels.now) (bare_entries (S.board sheet.now) ps)) }
+    ensures answer { search_answered result ≡ trace_answer (S.meaning sheet.now) (length labels.now) (bare_entries (S.board sheet.now) (traced T.rates (S.meaning sheet.now) connection labels.now)) }
+    ensures wire { AfterSearch T.rates (S.meaning sheet.now) connection labels.now (λ ps. search_answered result ≡ trace_answer (S.meaning sheet.now) (length labels.now) (bare_entries (S.board sheet.now) ps)) }
 {
     let trace = begin::<S, T>(sheet, connection, labels)?;
     Ok(count_bare(sheet, trace))
@@ -65,7 +66,8 @@ fn check_room(places: u32, room: usize) -> Result<(), SearchFault>
     }
 }
 
-// Writes the places that a trace gives, the last one first.
+// Writes the places that a trace gives, the last one first. By index: over `path.iter_mut().rev()`, with `zip` or with `next`,
+// what the function ensures stayed open, since a proof then knows the length of the path and none of its entries.
 fn write_back<T: Tariff>(trace: Trace<'_, T>, path: &mut [u32])
     requires { length path.old ≡ length (places_left T.rates trace) }
     ensures { path.new ≡ reverse (places_left T.rates trace.entry) }
@@ -84,9 +86,9 @@ pub fn write_wire<G: Ground, T: Tariff>(
     labels: &[Option<T::Cost>],
     path: &mut [u32],
 ) -> Result<u32, SearchFault>
-    ensures answer { search_answered result ≡ write_answer (G.meaning area.now) (length labels.now) (traced T.rates (G.meaning area.now) connection.net connection.start connection.goal labels.now) (length path.old) }
-    ensures after { path.new ≡ path_after (G.meaning area.now) (length labels.now) (traced T.rates (G.meaning area.now) connection.net connection.start connection.goal labels.now) path.old }
-    ensures wire { AfterSearch T.rates (G.meaning area.now) connection.net connection.start connection.goal labels.now (λ ps. (search_answered result ≡ write_answer (G.meaning area.now) (length labels.now) ps (length path.old)) × (path.new ≡ path_after (G.meaning area.now) (length labels.now) ps path.old)) }
+    ensures answer { search_answered result ≡ write_answer (G.meaning area.now) (length labels.now) (traced T.rates (G.meaning area.now) connection labels.now) (length path.old) }
+    ensures after { path.new ≡ path_after (G.meaning area.now) (length labels.now) (traced T.rates (G.meaning area.now) connection labels.now) path.old }
+    ensures wire { AfterSearch T.rates (G.meaning area.now) connection labels.now (λ ps. (search_answered result ≡ write_answer (G.meaning area.now) (length labels.now) ps (length path.old)) × (path.new ≡ path_after (G.meaning area.now) (length labels.now) ps path.old)) }
 {
     let places = wire_length::<G, T>(area, connection, labels)?;
     check_room(places, path.len())?;

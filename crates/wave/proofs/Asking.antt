@@ -3,6 +3,7 @@ use Rattle.std.proofs.Common.{◌≡◌, ℕ, zero, suc, ◌≤◌, Bool, true, 
 use Rattle.std.proofs.lemmas.List.{same_lists, get_or_default, length-take-le}
 use Rattle.std.proofs.lemmas.Bool.{leb-true}
 use Rattle.grid.specs.Faults.{Refusal}
+use Rattle.grid.specs.declared.shape.Shape.{Shape}
 use Rattle.grid.specs.Places.{count_of}
 use Rattle.grid.proofs.Numbering.{count_most}
 use Rattle.tariff.specs.Rates.{Rates, Laws}
@@ -14,10 +15,11 @@ use Rattle.route.specs.Sweep.{row, swept}
 use Rattle.route.proofs.Order.{none_some}
 use Rattle.route.proofs.Sweep.{swept_is_least}
 use Rattle.route.proofs.Laws.{lawful}
+use Rattle.wave.specs.declared.connection.Connection.{Connection}
 use Rattle.wave.specs.Questions.{Question, ask, refused_by, unless, serves, start_asks, wave_asks, search_asks, whole_wave, RefusalLeaves}
 
 -- a question that holds, and the rest
-passed : (b : Bool) (f : Refusal) (rest : Option Refusal) → cond b rest (Some f) ≡ None → (b ≡ true) × (rest ≡ None)
+pub passed : (b : Bool) (f : Refusal) (rest : Option Refusal) → cond b rest (Some f) ≡ None → (b ≡ true) × (rest ≡ None)
 passed true f rest h = (refl, h)
 passed false f rest h = none_some (sym h)
 
@@ -37,33 +39,33 @@ unless_some o f a e = sym (ap (λ z. unless z a) e)
 pub unless_none : {A : Type 0} (o : Option Refusal) (a : Result A Refusal) → o ≡ None → a ≡ unless o a
 unless_none o a e = sym (ap (λ z. unless z a) e)
 
--- what the questions of a start tell
-pub record Allowed {C : Type 0} (t : Rates C) (g : Ground) (q : Queue C) (net start entries : ℕ) : Type 0 where
-  pub enough : count_of g.shape ≤ entries
+-- what the questions of a start tell of the labels xs, whose first k are those of the board's places
+pub record Allowed {C : Type 0} (t : Rates C) (g : Ground) (q : Queue C) (net start : ℕ) (xs : List (Option C)) (k : ℕ) : Type 0 where
+  pub places : k ≡ count_of g.shape
+  pub enough : count_of g.shape ≤ length xs
+  pub sized : length (take k xs) ≡ count_of g.shape
   pub served : serves t g q ≡ true
   pub free : g.opened start net ≡ true
 
--- with any questions behind them
-start_allowed : {C : Type 0} (t : Rates C) (g : Ground) (q : Queue C) (net start entries : ℕ) (more : List Question) → refused_by (start_asks t g q net start entries ++ more) ≡ None →
-    Allowed t g q net start entries
-start_allowed t g q net start entries more h =
-    let (l, h1) = passed (leb (count_of g.shape) entries) _ _ h in
-    let (s, h2) = passed (serves t g q) _ _ h1 in
-    let (o, h3) = passed (g.opened start net) _ _ h2 in
-    record { enough = leb-true _ _ l; served = s; free = o }
+module _ {C : Type 0} (t : Rates C) (g : Ground) (q : Queue C) (xs : List (Option C)) {s : Shape} {k : ℕ} (es : s ≡ g.shape) (ek : k ≡ count_of s) where
+  -- with any questions behind them
+  start_allowed : (net start : ℕ) (more : List Question) → refused_by (start_asks t g q net start (length xs) ++ more) ≡ None → Allowed t g q net start xs k
+  start_allowed net start more h =
+      let (l, h1) = passed (leb (count_of g.shape) (length xs)) _ _ h in
+      let (s, h2) = passed (serves t g q) _ _ h1 in
+      let (o, h3) = passed (g.opened start net) _ _ h2 in
+      let e : k ≡ count_of g.shape = ek ∙ ap count_of es in
+      let enough = leb-true _ _ l in
+      record { places = e; enough = enough; sized = length-take-le k xs (omega arith) ∙ e; served = s; free = o }
 
-pub wave_allowed : {C : Type 0} (t : Rates C) (g : Ground) (q : Queue C) (net start entries : ℕ) → refused_by (wave_asks t g q net start entries) ≡ None → Allowed t g q net start entries
-wave_allowed t g q net start entries h =
-    let (a, h1) = passed _ _ _ h in
-    let (i, h2) = passed (ltb start (count_of g.shape)) _ _ h1 in
-    start_allowed t g q net start entries [] h2
+  pub wave_allowed : (net start : ℕ) → refused_by (wave_asks t g q net start (length xs)) ≡ None → Allowed t g q net start xs k
+  wave_allowed net start h =
+      let (a, h1) = passed _ _ _ h in
+      let (i, h2) = passed (ltb start (count_of g.shape)) _ _ h1 in
+      start_allowed net start [] h2
 
-pub search_allowed : {C : Type 0} (t : Rates C) (g : Ground) (q : Queue C) (net start goal entries : ℕ) → refused_by (search_asks t g q net start goal entries) ≡ None → Allowed t g q net start entries
-search_allowed t g q net start goal entries h = start_allowed t g q net start entries (ask (g.opened goal net) 5 goal ∷ []) h
-
--- how long the front part of the labels is
-pub front_size : {C : Type 0} (n k : ℕ) (xs : List (Option C)) → n ≤ length xs → k ≡ n → length (take k xs) ≡ n
-front_size n k xs enough e = length-take-le k xs (omega arith) ∙ e
+  pub search_allowed : (j : Connection) → refused_by (search_asks t g q j (length xs)) ≡ None → Allowed t g q j.net j.start xs k
+  search_allowed j h = start_allowed j.net j.start (ask (g.opened j.goal j.net) 5 j.goal ∷ []) h
 
 length_row : {A : Type 0} (f : ℕ → A) (i n : ℕ) → length (row f i n) ≡ n
 unfolding row

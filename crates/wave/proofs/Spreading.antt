@@ -8,9 +8,9 @@ use Rattle.grid.proofs.Numbering.{count_most}
 use Rattle.tariff.specs.Rates.{Rates, Laws}
 use Rattle.front.specs.Queue.{Queue, Removed, Empty}
 use Rattle.model.specs.Sheets.{Ground, Sound as Solid}
-use Rattle.route.specs.Hops.{Hop, around}
+use Rattle.route.specs.Hops.{around}
 use Rattle.route.specs.Paths.{maze}
-use Rattle.route.specs.Search.{Maze, Legal, end, least}
+use Rattle.route.specs.Search.{least}
 use Rattle.route.proofs.States.{Sound, Fresh, MayTake, Labelled}
 use Rattle.route.proofs.Around.{around_back}
 use Rattle.route.proofs.Order.{none_some, cases_option}
@@ -19,6 +19,7 @@ use Rattle.route.proofs.Queue.{fresh_is_sound, sound_is_kept, all_are_labelled, 
 use Rattle.route.proofs.Offer.{took_none}
 use Rattle.route.proofs.Laws.{lawful}
 use Rattle.route.proofs.Stopped.{known_taken}
+use Rattle.route.proofs.Wire.{end_free}
 use Rattle.wave.specs.Offers.{state_of, OffersAll}
 use Rattle.wave.specs.Spread.{labelled, unlabelled, Missed, Spread}
 
@@ -45,10 +46,6 @@ both_counts : {C : Type 0} (xs : List (Option C)) → labelled xs + unlabelled x
 both_counts [] = refl
 both_counts (None ∷ xs) = let i = both_counts xs in omega arith
 both_counts (Some d ∷ xs) = let i = both_counts xs in omega arith
-
-end_free : {C : Type 0} (t : Rates C) (m : Maze) (w : List Hop) → Legal t.has m w → m.free (end m w) ≡ true
-end_free t m [] l = l
-end_free t m (h ∷ w) l = l.0
 
 module _ {C : Type 0} {t : Rates C} {g : Ground} {net start : ℕ} where
   pub begun : (q : Queue C) (xs : List (Option C)) → Laws t → Fresh t (maze g net start) (state_of xs q 0) → length xs ≡ count_of g.shape → count_of g.shape ≤ q.served →

@@ -7,6 +7,7 @@ use Rattle.front.specs.Queue.{Queue}
 use Rattle.model.specs.Sheets.{Ground, is_net}
 use Rattle.route.specs.Listed.{On}
 use Rattle.route.specs.Paths.{LeastCost, maze, labels, label_of, wire_over, wire}
+use Rattle.wave.specs.declared.connection.Connection.{Connection}
 use Rattle.wave.specs.declared.fault.SearchFault.{SearchFault}
 use Rattle.wave.specs.declared.fault.SearchFault.TheVariants.{Sheet, NotServed, NoPath, ShortPath}
 use Rattle.wave.specs.Spread.{labelled}
@@ -68,16 +69,16 @@ WaveLeaves t g n start xs ys f f' (Ok k) = ys ≡ whole_wave t g n start xs
 WaveLeaves t g n start xs ys f f' (Err e) = (ys ≡ xs) × (f' ≡ f)
 
 -- THE SEARCH TO A GOAL asks what a start asks, and 5 of the goal
-abbrev pub search_asks : {C : Type 0} → Rates C → Ground → Queue C → ℕ → ℕ → ℕ → ℕ → List Question
-search_asks t g q n start goal entries = start_asks t g q n start entries ++ (ask (g.opened goal n) 5 goal ∷ [])
+abbrev pub search_asks : {C : Type 0} → Rates C → Ground → Queue C → Connection → ℕ → List Question
+search_asks t g q j entries = start_asks t g q j.net j.start entries ++ (ask (g.opened j.goal j.net) 5 j.goal ∷ [])
 
 -- and then 10: it answers the goal's least cost
 abbrev pub found : {C : Type 0} → ℕ → Option C → Result C Refusal
 found goal None = Err (refusal 10 goal)
 found goal (Some c) = Ok c
 
-abbrev pub search_answer : {C : Type 0} → Rates C → Ground → Queue C → ℕ → ℕ → ℕ → ℕ → Result C Refusal
-search_answer t g q n start goal entries = unless (refused_by (search_asks t g q n start goal entries)) (found goal (label_of (labels t g n start) goal))
+abbrev pub search_answer : {C : Type 0} → Rates C → Ground → Queue C → Connection → ℕ → Result C Refusal
+search_answer t g q j entries = unless (refused_by (search_asks t g q j entries)) (found j.goal (label_of (labels t g j.net j.start) j.goal))
 
 -- labels where the goal was reached: each is none or the least cost, every place of the wire has one, the trace over them is the wire,
 -- and those behind the last place are as they stood
@@ -93,6 +94,6 @@ abbrev pub RefusalLeaves : {C F : Type 0} → Rates C → Ground → ℕ → ℕ
 RefusalLeaves t g n start (Some e) xs ys f f' = (ys ≡ xs) × (f' ≡ f)
 RefusalLeaves t g n start None xs ys f f' = ys ≡ whole_wave t g n start xs
 
-abbrev pub SearchLeaves : {C F : Type 0} → Rates C → Ground → ℕ → ℕ → ℕ → Option Refusal → List (Option C) → List (Option C) → F → F → Result C SearchFault → Type 0
-SearchLeaves t g n start goal early xs ys f f' (Ok c) = SomeLabels t g n start goal xs ys
-SearchLeaves t g n start goal early xs ys f f' (Err x) = RefusalLeaves t g n start early xs ys f f'
+abbrev pub SearchLeaves : {C F : Type 0} → Rates C → Ground → Connection → Option Refusal → List (Option C) → List (Option C) → F → F → Result C SearchFault → Type 0
+SearchLeaves t g j early xs ys f f' (Ok c) = SomeLabels t g j.net j.start j.goal xs ys
+SearchLeaves t g j early xs ys f f' (Err x) = RefusalLeaves t g j.net j.start early xs ys f f'

@@ -14,7 +14,7 @@ use sheet::{Ground, check_entries, check_net, check_open, check_place};
 use tariff::Tariff;
 
 // Takes every label away and lets the start wait, then takes what waits and labels it, until nothing waits or the goal is
-// taken; how many places that is.
+// taken; how many places that is. The front stands beside the board here too, for the reason in offer.rt.
 fn spread<G: Ground, T: Tariff, F: Front<T>>(
     area: &G,
     net: u16,
@@ -50,7 +50,7 @@ fn spread<G: Ground, T: Tariff, F: Front<T>>(
 }
 
 // Asks whether there is a label for each place (2), the front serves the tariff and the places (9), and the start is open to
-// the net (5).
+// the net (5). This and the next two checks take the length alone, so that the labels stay lent to the caller.
 fn check_start<G: Ground, T: Tariff, F: Front<T>>(
     area: &G,
     net: u16,
@@ -98,6 +98,7 @@ pub fn wave<G: Ground, T: Tariff, F: Front<T>>(
     ensures after { WaveLeaves T.rates (G.meaning area.now) net start labels.old labels.new front.old front.new result }
 {
     check_wave::<G, T, F>(area, net, start, labels.len(), front)?;
+    // The part of the labels that has the places is cut here, since the contract speaks of the whole list.
     let places = area.shape().places() as usize;
     let board = &mut labels[..places];
     Ok(spread::<G, T, F>(area, net, start, None, board, front))
@@ -110,7 +111,7 @@ fn check_search<G: Ground, T: Tariff, F: Front<T>>(
     entries: usize,
     front: &F,
 ) -> Result<(), SearchFault>
-    ensures { search_answered result ≡ unless (refused_by (search_asks T.rates (G.meaning area.now) (F.view front.now) connection.net connection.start connection.goal entries)) (Ok tt) }
+    ensures { search_answered result ≡ unless (refused_by (search_asks T.rates (G.meaning area.now) (F.view front.now) connection entries)) (Ok tt) }
 {
     check_start::<G, T, F>(area, connection.net, connection.start, entries, front)?;
     Ok(check_open(area, connection.goal, connection.net)?)
@@ -124,12 +125,13 @@ pub fn search<G: Ground, T: Tariff, F: Front<T>>(
     labels: &mut [Option<T::Cost>],
     front: &mut F,
 ) -> Result<T::Cost, SearchFault>
-    ensures answer { search_answered result ≡ search_answer T.rates (G.meaning area.now) (F.view front.old) connection.net connection.start connection.goal (length labels.old) }
+    ensures answer { search_answered result ≡ search_answer T.rates (G.meaning area.now) (F.view front.old) connection (length labels.old) }
     ensures least { LabelsAreLeast T.rates }
     ensures wire { WireIsWire T.rates }
-    ensures after { SearchLeaves T.rates (G.meaning area.now) connection.net connection.start connection.goal (refused_by (search_asks T.rates (G.meaning area.now) (F.view front.old) connection.net connection.start connection.goal (length labels.old))) labels.old labels.new front.old front.new result }
+    ensures after { SearchLeaves T.rates (G.meaning area.now) connection (refused_by (search_asks T.rates (G.meaning area.now) (F.view front.old) connection (length labels.old))) labels.old labels.new front.old front.new result }
 {
     check_search::<G, T, F>(area, connection, labels.len(), front)?;
+    // Cut here, as in the wave.
     let places = area.shape().places() as usize;
     let board = &mut labels[..places];
     let _ = spread::<G, T, F>(

@@ -13,7 +13,7 @@ returns g c =
     let e : k ≡ count_of m.shape = c.places.ensures.is ∙ ap count_of c.shape-shape.ensures in (
       enough m c.shape-shape.result (length ls) c.shape-shape.ensures c.in_ok-check_entries.ensures,
       λ n. record {
-        is = traced_is g.T.Tariff.rates m n c.args.connection.start c.args.connection.goal ls c.shape-shape.result k c.shape-shape.ensures e;
+        is = traced_is g.T.Tariff.rates m (record c.args.connection { net = n }) ls c.shape-shape.result k c.shape-shape.ensures e;
         few = trace_short g.T.Tariff.rates (ways c.shape-shape.result c.args.connection.start) (label_of (take k ls)) 2097152 c.args.connection.goal;
       },
     )

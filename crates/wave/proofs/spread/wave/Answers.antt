@@ -1,7 +1,6 @@
-use Rattle.std.proofs.Common.{◌≡◌, length, Ok, ap, ◌∙◌}
-use Rattle.grid.specs.Places.{count_of}
+use Rattle.std.proofs.Common.{Ok, ap, ◌∙◌}
 use Rattle.wave.specs.Spread.{labelled}
-use Rattle.wave.proofs.Asking.{granted, unless_none, wave_allowed, front_size, whole_labels, whole_list}
+use Rattle.wave.proofs.Asking.{granted, unless_none, wave_allowed, whole_labels, whole_list}
 use Rattle.route.proofs.Labels.{labels_are_least}
 use Rattle.wave.proofs.spread.wave.Goals as goal
 
@@ -10,14 +9,8 @@ returns-in_err-check_wave-clause-least g c = labels_are_least g.met.T.Tariff.law
 
 pub spread-requires : goal.spread-requires
 spread-requires g c =
-    let m = g.G.Ground.meaning c.args.area.now in
-    let a = wave_allowed g.T.Tariff.rates m (g.F.Front.view c.args.front.now) c.args.net c.args.start (length c.args.labels.now) (granted _ c.in_ok-check_wave.ensures) in
-    let e : c.places-places.result ≡ count_of m.shape = c.places-places.ensures.is ∙ ap count_of c.shape.ensures in
-    record {
-      sized = front_size _ _ _ a.enough e;
-      served = a.served;
-      free = a.free;
-    }
+    let a = wave_allowed g.T.Tariff.rates (g.G.Ground.meaning c.args.area.now) (g.F.Front.view c.args.front.now) c.args.labels.now c.shape.ensures c.places-places.ensures.is c.args.net c.args.start (granted _ c.in_ok-check_wave.ensures) in
+    record { sized = a.sized; served = a.served; free = a.free }
 
 pub returns : goal.returns
 returns g c =
@@ -25,12 +18,11 @@ returns g c =
     let sound = g.G.Ground.sound c.args.area.now in
     let laws = g.met.T.Tariff.laws in
     let o = granted _ c.in_ok-check_wave.ensures in
-    let a = wave_allowed g.T.Tariff.rates m (g.F.Front.view c.args.front.now) c.args.net c.args.start (length c.args.labels.now) o in
-    let e : c.places-places.result ≡ count_of m.shape = c.places-places.ensures.is ∙ ap count_of c.shape.ensures in
-    let size : length c.spread.new.labels ≡ count_of m.shape = c.spread.auto.labels ∙ front_size _ _ _ a.enough e in
+    let a = wave_allowed g.T.Tariff.rates m (g.F.Front.view c.args.front.now) c.args.labels.now c.shape.ensures c.places-places.ensures.is c.args.net c.args.start o in
+    let size = c.spread.auto.labels ∙ a.sized in
     let all = c.spread.ensures.whole tt in
     record {
       answer = ap Ok (c.spread.ensures.count ∙ ap labelled (whole_labels laws m sound c.args.net c.args.start _ size all)) ∙ unless_none _ _ o;
       least = labels_are_least laws;
-      after = whole_list laws m sound c.args.net c.args.start c.places-places.result c.args.labels.now c.spread.new.labels e size all;
+      after = whole_list laws m sound c.args.net c.args.start c.places-places.result c.args.labels.now c.spread.new.labels a.places size all;
     }
