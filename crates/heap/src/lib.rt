@@ -39,7 +39,7 @@ impl<'a, C: Copy> Heap<'a, C> {
         }
     }
 
-    // How many places are served.
+    // How many places are served. This and the next are as the ring's: each reads a list of its own.
     fn capacity(&self) -> usize
         ensures { result ≡ (view_of self.now).served }
     {

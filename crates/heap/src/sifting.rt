@@ -27,7 +27,8 @@ impl<'a, C: Copy> Heap<'a, C> {
         hole > 1 && T::less(cost, self.key_at(hole / 2))
     }
 
-    // Sifts a place up from a hole, to where its parent's cost is not greater.
+    // Sifts a place up from a hole, to where its parent's cost is not greater. Each turn halves a position, so there is nothing
+    // to go over.
     pub(super) fn sift_up<T: Tariff<Cost = C>>(&mut self, from: usize, place: u32, cost: C)
         requires { MayRise T.Tariff.rates self.old from place cost }
         ensures { Fills T.Tariff.rates self.old self.new from place }
@@ -68,7 +69,8 @@ impl<'a, C: Copy> Heap<'a, C> {
         T::less(self.key_at(child), cost).then_some(child)
     }
 
-    // Sifts a place down from a hole at the first position, to where no child's cost is less.
+    // Sifts a place down from a hole at the first position, to where no child's cost is less. Each turn goes to a child, so
+    // there is nothing to go over.
     pub(super) fn sift_down<T: Tariff<Cost = C>>(&mut self, place: u32, cost: C)
         requires { MaySink T.Tariff.rates self.old 1 place cost }
         ensures { Fills T.Tariff.rates self.old self.new 1 place }

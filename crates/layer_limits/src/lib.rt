@@ -70,7 +70,8 @@ mod tests {
         Ok(())
     }
 
-    // The answer to the last of so many rectangles that are added, and whether place 0 is open then.
+    // The answer to the last of so many rectangles that are added, and whether place 0 is open then: two answers of one try,
+    // which the test takes apart at once. The same call is made so many times, with nothing to go over.
     fn add_all<S: Sheet>(sheet: &mut S, each: Row, count: u32) -> (Result<(), SheetFault>, bool) {
         let mut layer = KeepOut::new(sheet);
         let mut answer = Ok(());

@@ -45,6 +45,7 @@ where
 {
     println!(rt; "{name}")?;
     print_steps::<T>(rt, shape, wire)?;
+    // Both arms print, so nothing is handed on.
     match price::<T>(shape, wire) {
         Ok(cost) => println!(rt; "  total {cost}")?,
         Err(fault) => println!(rt; "  {fault}")?,
@@ -65,6 +66,7 @@ fn run(rt: &HostRuntime) -> anyhow::Result<()> {
     let [columns, rows, layers, wire @ ..] = list.as_slice() else {
         return Err(anyhow!("usage: price COLUMNS ROWS LAYERS PLACE .."));
     };
+    // A refusal is printed here, and not handed on.
     match Shape::new(*columns, *rows, *layers) {
         Err(fault) => println!(rt; "no {}", fault.number())?,
         Ok(shape) => {

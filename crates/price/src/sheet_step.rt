@@ -21,6 +21,7 @@ fn print_answer(
     what: &str,
     answer: Result<(), SheetFault>,
 ) -> anyhow::Result<()> {
+    // Both arms print, so nothing is handed on.
     match answer {
         Ok(()) => println!(rt; "  {what}: ok")?,
         Err(fault) => println!(rt; "  {what}: no {fault}")?,

@@ -52,7 +52,7 @@ impl<'a, C: Copy> Ring<'a, C> {
         }
     }
 
-    // How many places are served.
+    // How many places are served. This and the next are as the heap's: each reads a list of its own.
     fn capacity(&self) -> usize
         ensures { result ≡ (view_of self.now).served }
     {

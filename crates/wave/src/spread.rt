@@ -14,7 +14,8 @@ use sheet::{Ground, check_entries, check_net, check_open, check_place};
 use tariff::Tariff;
 
 // Takes every label away and lets the start wait, then takes what waits and labels it, until nothing waits or the goal is
-// taken; how many places that is. The front stands beside the board here too, for the reason in offer.rt.
+// taken; how many places that is. The front stands beside the board here too, for the reason in offer.rt. A front is no
+// iterator: `take` has the front's order as its condition, and an iterator's `next` has none.
 fn spread<G: Ground, T: Tariff, F: Front<T>>(
     area: &G,
     net: u16,

@@ -29,6 +29,7 @@ impl<'a> Ground for Drawing<'a> {
 
     ghost sound = { λ s. drawn_sound s.shape s.cells.now };
 
+    // As the wide sheet's: each answers a field of its own.
     fn shape(&self) -> Shape {
         self.shape
     }
