@@ -44,7 +44,8 @@ impl SheetFault {
         }
     }
 
-    // The number of the refusal.
+    // The number of the refusal. This, the next and `fmt` read as those of a search's faults: each reads one part of its own
+    // refusal.
     pub fn number(self) -> u32
         ensures { result ≡ (sheet_refusal self).number }
     {

@@ -1,5 +1,6 @@
-// Reads and writes of the heap's list. That a place has a record stands in each contract: a place is any number of 32 bits, and
-// the lent list alone says which have records. Where places come to wait it is `place < room ..`: `room` also keeps within the
+// Reads and writes of the heap's list. That a place or a position has a record stands in each contract: a place is any number of
+// 32 bits, and the lent list alone says which have records; a struct that held it beside the list would be made for each read.
+// Where places come to wait it is `place < room ..`: `room` also keeps within the
 // numbers of 32 bits, which the order needs.
 ghost use Rattle.std.specs.Prelude.{◌≡◌, ◌+◌, ◌-◌, ◌<◌, ◌≤◌, length, Some};
 ghost use Rattle.sift.specs.Layouts.{layout, filled, priced, key};
@@ -48,7 +49,7 @@ impl<'a, C: Copy> Heap<'a, C> {
     }
 }
 
-// Gives a place a cost. The writes are functions of the list, so that a caller knows that the other fields stay.
+// Gives a place a cost. The ring has the same for its records: each writes one field. The writes are functions of the list, so that a caller knows that the other fields stay.
 pub fn set_cost<C: Copy>(list: &mut [HeapRecord<C>], place: u32, cost: C)
     requires { place + 1 < length list.old }
     ensures { layout list.new ≡ priced (layout list.old) place cost }

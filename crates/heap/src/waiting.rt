@@ -12,7 +12,8 @@ use front::Taken;
 use tariff::Tariff;
 
 impl<'a, C: Copy> Heap<'a, C> {
-    // Whether a place waits: it names a position in use, which names the place.
+    // Whether a place waits: it names a position in use, which names the place. As the ring's `in_use`: one function for both
+    // would need a trait that reads each field of a record.
     fn is_waiting(&self, place: u32) -> bool
         requires few { self.now.count ≤ room (length self.now.list.now) }
         requires inside { place < room (length self.now.list.now) }

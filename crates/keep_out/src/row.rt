@@ -5,7 +5,8 @@ ghost use Rattle.keep_out.specs.Rectangles.{row_of, told, rectangle_answer, is_w
 use super::rectangle::Rectangle;
 use grid::{Coordinates, SheetFault};
 
-// Five numbers that may be a rectangle's.
+// Five numbers that may be a rectangle's. The table holds plain rows, as it is laid down; a `Rectangle` is one whose bounds
+// its type keeps.
 #[derive(Clone, Copy, Default, PartialEq, Eq, Debug)]
 pub struct Row {
     pub layer: u32,

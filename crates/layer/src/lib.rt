@@ -78,6 +78,7 @@ impl<'a, S: Sheet, N: Narrowing> Sheet for Layer<'a, S, N> {
 
     ghost tied = { λ s small. narrow_tied (N.opened s.narrowing) (N.narrows s.narrowing) (S.board s.below.now) (S.tied s.below.now small) };
 
+    // This and `spares`, `lift`, `bar` and `wipe` pass on one call each.
     fn copper(&self, place: u32) -> Option<u16> {
         self.below.copper(place)
     }

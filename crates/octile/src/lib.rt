@@ -42,6 +42,7 @@ impl Tariff for Octile {
         Surd { a: 0, b: 0 }
     }
 
+    // `<` of its own cost, as the rectilinear tariff's.
     fn less(a: Surd, b: Surd) -> bool {
         a < b
     }

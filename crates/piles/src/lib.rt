@@ -1,7 +1,7 @@
 // Layers piled on any sheet: one layer to a function, each handed on to code for all sheets. Both layers in one function
 // were tried: the borrow checker covers it, but five goals then need answers, which the contracts of the functions for one
 // layer give at once. Each of the four functions is one pile: their clauses of copper and loans are the same, and the
-// answer is that of the pile's own board.
+// answer is that of the pile's own board. Row, path and net are parameters: a struct of them would be taken apart at once.
 #![tactic(auto)]
 
 ghost use Rattle.std.specs.Prelude.{◌≡◌, [], ◌∷◌};

@@ -31,6 +31,7 @@ impl Tariff for Rectilinear {
         0
     }
 
+    // `<` of its own cost, as the octile tariff's.
     fn less(a: u32, b: u32) -> bool {
         a < b
     }

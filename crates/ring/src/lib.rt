@@ -15,7 +15,7 @@ pub use rows::RingRecord;
 use tariff::Tariff;
 use turning::{has_rows, row_count};
 
-// The places that wait, in a list that is lent. Each is filed in one of span + 1 rows, by the level of its cost modulo their
+// The places that wait, in a list that is lent: a search has no memory of its own. Each is filed in one of span + 1 rows, by the level of its cost modulo their
 // number: the levels of all that wait lie between the level taken last and that plus the span, so a row has one level only.
 // The list may hold anything at first, and nothing goes over it: a place is in use if its record names a position in use, and
 // that position's record names the place.

@@ -1,5 +1,5 @@
 // What a ring does to its records. That a place has one stands in each contract: a place is any number of 32 bits, and the lent
-// list alone says which have records.
+// list alone says which have records; a struct that held it beside the list would be made for each read.
 ghost use Rattle.std.specs.Prelude.{◌≡◌, ℕ, ◌+◌, ◌<◌, ◌≤◌, false, length, Some};
 ghost use Rattle.rows.specs.Waiting.{layout, vouched};
 ghost use Rattle.front.specs.Places.{room};
@@ -8,7 +8,8 @@ ghost use Rattle.rows.specs.Links.{edit, seated, new_cost, new_next, new_back, l
 
 use rows::RingRecord;
 
-// Whether the position that a place names is in use, and names it.
+// Whether the position that a place names is in use, and names it. As the heap's `is_waiting`: one function for both would
+// need a trait that reads each field of a record.
 pub fn in_use<C: Copy>(list: &[RingRecord<C>], touched: usize, place: u32) -> bool
     requires few { touched ≤ room (length list.now) }
     requires inside { place + 1 < length list.now }

@@ -7,7 +7,8 @@ ghost use Rattle.model.specs.Sheets.{answered, ask, is_net};
 use super::{Ground, Sheet};
 use grid::{Shape, SheetFault};
 
-// The copper of a place that is bare. The nets are the numbers between it and that of a barred place.
+// The copper of a place that is bare. Copper is a 16-bit number, as it is laid down: its two numbers that are no net's have
+// names. The nets are the numbers between it and that of a barred place.
 pub const BARE: u16 = 0;
 
 // The copper of a place that is barred.

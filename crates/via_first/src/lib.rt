@@ -59,6 +59,7 @@ impl Tariff for ViaFirst {
         }
     }
 
+    // A method that promises more than the interface says the interface's clause again.
     fn less(a: ViaFirstCost, b: ViaFirstCost) -> bool
         ensures is { result ≡ via_first_rates.less a b }
         ensures ordered { (result ≡ true) ↔ FewerViasOrShorter a b }

@@ -34,7 +34,7 @@ impl SearchFault {
         }
     }
 
-    // The number of the refusal.
+    // The number of the refusal. This, the next and `fmt` read as those of SheetFault: each reads one part of its own refusal.
     pub fn number(self) -> u32
         ensures { result ≡ (search_refusal self).number }
     {
