@@ -27,11 +27,18 @@ impl Default for Table {
 }
 
 impl Table {
+    // The rows that are held. A part of the table is asked about faster than its first rows, taken one by one.
+    fn held(&self) -> &[Row]
+        ensures { result.now ≡ held_rows self.now }
+    {
+        self.rows.get(..self.count).unwrap_or(&self.rows)
+    }
+
     // Whether the coordinates lie in a rectangle that is held.
     pub(super) fn has(&self, at: Coordinates) -> bool
         ensures { result ≡ kept_out (held_rows self.now) at }
     {
-        self.rows.iter().take(self.count).any(|row| row.has(at))
+        self.held().iter().any(|row| row.has(at))
     }
 
     // Holds one more row. Asks whether fewer than 64 are held (2).

@@ -55,45 +55,62 @@ where
     print_taken::<T, F>(rt, front)
 }
 
-// What a heap of five places makes of the offers.
-fn print_heap<T: Tariff>(rt: &HostRuntime, name: &str) -> anyhow::Result<()>
+// What a heap makes of the offers.
+fn print_heap<T: Tariff>(
+    rt: &HostRuntime,
+    name: &str,
+    records: &mut [HeapRecord<T::Cost>],
+) -> anyhow::Result<()>
 where
     T::Cost: Display,
 {
-    let record = HeapRecord {
-        cost: T::nothing(),
-        slot: 0,
-        at: 0,
-    };
-    let mut records = vec![in rt.alloc(); record; 6]?;
-    let mut heap = Heap::new(&mut records);
+    let mut heap = Heap::new(records);
     print_front::<T, Heap<T::Cost>>(rt, name, &mut heap)
 }
 
-// What a ring of five places makes of the offers. The ring's stands apart: one function for both would need a trait for
-// making a front.
-fn print_ring<T: Tariff>(rt: &HostRuntime, name: &str) -> anyhow::Result<()>
+// What a ring makes of the offers. It stands apart: one function for both would need a trait for making a front.
+fn print_ring<T: Tariff>(
+    rt: &HostRuntime,
+    name: &str,
+    records: &mut [RingRecord<T::Cost>],
+) -> anyhow::Result<()>
 where
     T::Cost: Display,
 {
-    let record = RingRecord {
+    let mut ring = Ring::new(records);
+    print_front::<T, Ring<T::Cost>>(rt, name, &mut ring)
+}
+
+// Records for a heap of five places. An array, so that the program asks for no memory here.
+fn heap_records<C: Copy>(cost: C) -> [HeapRecord<C>; 6] {
+    [HeapRecord {
+        cost,
+        slot: 0,
+        at: 0,
+    }; 6]
+}
+
+// Records for a ring of five places, an array too.
+fn ring_records<C: Copy>() -> [RingRecord<C>; 6] {
+    [RingRecord {
         cost: None,
         next: 0,
         back: 0,
         slot: 0,
         at: 0,
-    };
-    let mut records = vec![in rt.alloc(); record; 6]?;
-    let mut ring = Ring::new(&mut records);
-    print_front::<T, Ring<T::Cost>>(rt, name, &mut ring)
+    }; 6]
 }
 
 // Prints what heap and ring make of the same offers.
 pub fn print_fronts(rt: &HostRuntime) -> anyhow::Result<()> {
     println!(rt; "fronts")?;
-    print_heap::<Octile>(rt, "heap, octile")?;
-    print_ring::<Octile>(rt, "ring, octile")?;
-    print_heap::<Rectilinear>(rt, "heap, rectilinear")?;
-    print_ring::<Rectilinear>(rt, "ring, rectilinear")?;
-    print_ring::<ViaFirst>(rt, "ring, via-first")
+    print_heap::<Octile>(rt, "heap, octile", &mut heap_records(Octile::nothing()))?;
+    print_ring::<Octile>(rt, "ring, octile", &mut ring_records())?;
+    print_heap::<Rectilinear>(
+        rt,
+        "heap, rectilinear",
+        &mut heap_records(Rectilinear::nothing()),
+    )?;
+    print_ring::<Rectilinear>(rt, "ring, rectilinear", &mut ring_records())?;
+    print_ring::<ViaFirst>(rt, "ring, via-first", &mut ring_records())
 }
