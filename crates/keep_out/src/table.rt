@@ -27,7 +27,7 @@ impl Default for Table {
 }
 
 impl Table {
-    // The rows that are held, as a part of the list. By `iter().take(..)` a question of 64 rectangles takes half as long again.
+    // The rows that are held, as a part of the list. By `iter().take(..)` a question of 64 rectangles takes 1.7 times as long.
     fn held(&self) -> &[Row]
         ensures { result.now ≡ held_rows self.now }
     {
